@@ -2,6 +2,7 @@
 ghost use mathlib.Core.Path.{_≡_};
 ghost use Rattle.std.specs.declared.option.Option.the-variants.{Some};
 ghost use Rattle.refusal.specs.Tells.{numberOf};
+ghost use Rattle.refusal.specs.Shown.{text};
 use std::fmt;
 
 // Why a call is refused. A refusal has a number from 1 to 15, and values that say what was wrong.
@@ -78,6 +79,8 @@ impl Refusal {
 
 // `refused`, the number, and the values by name.
 pub impl fmt::Display for Refusal as RefusalDisplay {
+    ghost shown = { λ e. Some (text e) };
+
     fn fmt<W: fmt::Write>(&self, f: &mut fmt::Formatter<W>) -> fmt::Result {
         match *self {
             Refusal::WrongLength(n) => write!(f, "refused 1 length {n}"),
