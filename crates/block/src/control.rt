@@ -1,0 +1,61 @@
+// The two control fields of a block, taken apart and put together.
+ghost use mathlib.Core.Path.{_≡_};
+ghost use Prim.Native.Nat.{ℕ, _+_, _*_, _/_, _%_, _<_};
+ghost use lib.ListN.{length, getD};
+ghost use Rattle.block.specs.Control.{bytes1, control1Of, bytes2, control2Of};
+
+// Control Field 1: what a block is and what it holds.
+#[derive(Clone, Copy, PartialEq, Eq, Drop)]
+pub struct Control1 {
+    // Reserved, 26 bits.
+    pub reserved: u32,
+    // Format, 6 bits: 5 in every data and end block.
+    pub format: u8,
+    // Tape Mark, 24 bits: the place of the nearest earlier data block with a tape mark, 0 if there is none.
+    pub mark: u32,
+    // Compression, 8 bits.
+    pub compression: u8,
+    // Object Number, 32 bits: the object of the first page.
+    pub object: u32,
+    // Sequential Number, 16 bits: which block of its record this is, from 1, if the record lies on several.
+    pub sequence: u16,
+    // Sequential File Mark Offset, 4 bits.
+    pub file_mark_offset: u8,
+    // Sequential File Mark Number, 12 bits.
+    pub file_mark_number: u16,
+    // Block Type, 3 bits: 1 data, 4 end, 5 check.
+    pub kind: u8,
+    // Early Warning, 1 bit.
+    pub early_warning: bool,
+    // Envelope Size, 4 bits: the entities of the envelope.
+    pub entities: u8,
+    // Envelope Back Link, 24 bits: the place before the envelope, all ONEs for the first.
+    pub back: u32,
+}
+
+// Control Field 2: where a block stands.
+#[derive(Clone, Copy, PartialEq, Eq, Drop)]
+pub struct Control2 {
+    // Reserved, 5 bits.
+    pub reserved: u8,
+    // Entity Offset, 5 bits: the number of the block in its entity.
+    pub offset: u8,
+    // Envelope First Object Number, 32 bits.
+    pub first: u32,
+    // Block Offset, 24 bits: the place of the block.
+    pub place: u32,
+    // Entity Size, 5 bits: the blocks of the entity.
+    pub blocks: u8,
+    // First Block, 1 bit: a record starts here.
+    pub starts: bool,
+    // Entity Number, 8 bits.
+    pub entity: u8,
+    // Envelope Number, 16 bits.
+    pub envelope: u16,
+    // Random Tag, 24 bits: the number of the hold.
+    pub tag: u32,
+    // K, 1 bit.
+    pub k: bool,
+    // Logical Track Number, 7 bits.
+    pub track: u8,
+}
