@@ -29,6 +29,7 @@ control1-fields c = λ i. record {
   «early_warning» = flag-bit (c .«early_warning») i; entities = c .entities; back = c .back }
 
 pub control1-decodes : Control1-decodes
+unfolding bytes1 control1Of
 control1-decodes c h = ap fromFields1 (decode-encode widths1 (fields1 c) 20 refl h) ∙ control1-fields c
 
 control2-fields : (c : Control2) → fromFields2 (fields2 c) ≡ c
@@ -38,6 +39,7 @@ control2-fields c = λ i. record {
   track = c .track }
 
 pub control2-decodes : Control2-decodes
+unfolding bytes2 control2Of
 control2-decodes c h = ap fromFields2 (decode-encode widths2 (fields2 c) 16 refl h) ∙ control2-fields c
 
 -- the fields of what bytes hold are those fields
@@ -49,6 +51,7 @@ fields1-back x = λ i.
     f n = getD (split widths1 x) n 0
 
 pub control1-encodes : Control1-encodes
+unfolding bytes1 control1Of
 control1-encodes bs l h =
     ap (encode widths1) (fields1-back (value bs)) ∙ encode-decode widths1 bs (ap (λ (n : ℕ). 8 * n) (sym l)) h
 
@@ -61,5 +64,6 @@ fields2-back x = λ i.
     f n = getD (split widths2 x) n 0
 
 pub control2-encodes : Control2-encodes
+unfolding bytes2 control2Of
 control2-encodes bs l h =
     ap (encode widths2) (fields2-back (value bs)) ∙ encode-decode widths2 bs (ap (λ (n : ℕ). 8 * n) (sym l)) h

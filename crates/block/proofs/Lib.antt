@@ -1,2 +1,6 @@
 pub mod Fields
+pub mod Groups
+pub mod Digits
+pub mod Numbers
 pub mod ControlLaws
+pub mod ControlBytes

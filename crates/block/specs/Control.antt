@@ -21,7 +21,7 @@ fields1 c =
     c .reserved ∷ c .format ∷ c .mark ∷ c .compression ∷ c .object ∷ c .sequence
       ∷ c .«file_mark_offset» ∷ c .«file_mark_number» ∷ c .kind ∷ bit (c .«early_warning») ∷ c .entities ∷ c .back ∷ []
 
-abbrev pub bytes1 : Control1 → List ℕ
+unfoldable pub bytes1 : Control1 → List ℕ
 bytes1 c = encode widths1 (fields1 c)
 
 abbrev pub fromFields1 : List ℕ → Control1
@@ -30,7 +30,7 @@ fromFields1 f = record {
   sequence = getD f 5 0; «file_mark_offset» = getD f 6 0; «file_mark_number» = getD f 7 0; kind = getD f 8 0;
   «early_warning» = eqb (getD f 9 0) 1; entities = getD f 10 0; back = getD f 11 0 }
 
-abbrev pub control1Of : List ℕ → Control1
+unfoldable pub control1Of : List ℕ → Control1
 control1Of bs = fromFields1 (decode widths1 bs)
 
 abbrev pub widths2 : List ℕ
@@ -41,7 +41,7 @@ fields2 c =
     c .reserved ∷ c .offset ∷ c .first ∷ c .place ∷ c .blocks ∷ bit (c .starts)
       ∷ c .entity ∷ c .envelope ∷ c .tag ∷ bit (c .k) ∷ c .track ∷ []
 
-abbrev pub bytes2 : Control2 → List ℕ
+unfoldable pub bytes2 : Control2 → List ℕ
 bytes2 c = encode widths2 (fields2 c)
 
 abbrev pub fromFields2 : List ℕ → Control2
@@ -50,7 +50,7 @@ fromFields2 f = record {
   starts = eqb (getD f 5 0) 1; entity = getD f 6 0; envelope = getD f 7 0; tag = getD f 8 0;
   k = eqb (getD f 9 0) 1; track = getD f 10 0 }
 
-abbrev pub control2Of : List ℕ → Control2
+unfoldable pub control2Of : List ℕ → Control2
 control2Of bs = fromFields2 (decode widths2 bs)
 
 -- A control field within its widths comes back from its bytes, and bytes come back from the fields they hold.

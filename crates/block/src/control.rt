@@ -2,6 +2,8 @@
 ghost use mathlib.Core.Path.{_≡_};
 ghost use Prim.Native.Nat.{ℕ, _+_, _*_, _/_, _%_, _<_};
 ghost use lib.ListN.{length, getD};
+ghost use mathlib.Core.List.{[], _∷_};
+ghost use Rattle.block.specs.Fields.{join, bit};
 ghost use Rattle.block.specs.Control.{bytes1, control1Of, bytes2, control2Of};
 
 // Control Field 1: what a block is and what it holds.
@@ -58,4 +60,42 @@ pub struct Control2 {
     pub k: bool,
     // Logical Track Number, 7 bits.
     pub track: u8,
+}
+
+impl Control1 {
+    // The 20 bytes of the field; a value wider than its bits keeps its low ones.
+    pub fn to_bytes(self) -> [u8; 20]
+        ensures { λ r. ⌜ r ≡ bytes1 self ⌝ }
+    {
+        let [h0, h1, h2, h3] = self.head().to_be_bytes();
+        let [_, t0, t1, t2] = self.mark.to_be_bytes();
+        let [o0, o1, o2, o3] = self.object.to_be_bytes();
+        let [s0, s1] = self.sequence.to_be_bytes();
+        let [m0, m1] = self.file_marks().to_be_bytes();
+        let [_, l0, l1, l2] = self.back.to_be_bytes();
+        let kind = self.kind_byte();
+        let c = self.compression;
+        [h0, h1, h2, h3, t0, t1, t2, c, o0, o1, o2, o3, s0, s1, m0, m1, kind, l0, l1, l2]
+    }
+
+    // Reserved and Format.
+    fn head(self) -> u32
+        ensures { λ r. ⌜ r ≡ join (26 ∷ 6 ∷ []) (self .reserved ∷ self .format ∷ []) ⌝ }
+    {
+        self.reserved % 0x400_0000 * 64 + u32::from(self.format % 64)
+    }
+
+    // The two file mark fields.
+    fn file_marks(self) -> u16
+        ensures { λ r. ⌜ r ≡ join (4 ∷ 12 ∷ []) (self .«file_mark_offset» ∷ self .«file_mark_number» ∷ []) ⌝ }
+    {
+        u16::from(self.file_mark_offset % 16) * 4096 + self.file_mark_number % 4096
+    }
+
+    // Block Type, Early Warning and Envelope Size.
+    fn kind_byte(self) -> u8
+        ensures { λ r. ⌜ r ≡ join (3 ∷ 1 ∷ 4 ∷ []) (self .kind ∷ bit (self .«early_warning») ∷ self .entities ∷ []) ⌝ }
+    {
+        self.kind % 8 * 32 + u8::from(self.early_warning) * 16 + self.entities % 16
+    }
 }

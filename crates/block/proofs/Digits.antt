@@ -1,0 +1,47 @@
+-- The bytes of one number, and of the fields that share them. Assumes nothing.
+use mathlib.Core.Path.{_≡_, refl, sym, ap, ap₂, _∙_}
+use mathlib.Core.List.{List, [], _∷_, _++_}
+use Prim.Native.Nat.{ℕ, _+_, _*_, _/_, _%_, _^_, _<_}
+use native.Mathlib.Nat.{div-one, mul-one, add-zero, mod-eq-of-lt, mod-add-div'}
+use native.Mathlib.Omega.{arith}
+use lib.ListN.{length, replicate}
+use Rattle.block.specs.Fields.{sum, join, split, bytes, encode}
+use Rattle.block.proofs.Fields.{split-low, sum-eights}
+
+-- the last byte of a number
+last : (x : ℕ) → x / 1 % 256 ≡ x % 256
+last x = ap (λ (m : ℕ). m % 256) (div-one x)
+
+pub bytes-one : (x : ℕ) → x < 256 → bytes 1 x ≡ x ∷ []
+bytes-one x h = ap (λ (b : ℕ). b ∷ []) (last x ∙ mod-eq-of-lt h)
+
+pub bytes-two : (x : ℕ) → bytes 2 x ≡ x / 256 % 256 ∷ x % 256 ∷ []
+bytes-two x = ap (λ (b : ℕ). x / 256 % 256 ∷ b ∷ []) (last x)
+
+pub bytes-three : (x : ℕ) → bytes 3 x ≡ x / 65536 % 256 ∷ x / 256 % 256 ∷ x % 256 ∷ []
+bytes-three x = ap (λ (b : ℕ). x / 65536 % 256 ∷ x / 256 % 256 ∷ b ∷ []) (last x)
+
+pub bytes-four : (x : ℕ) → bytes 4 x ≡ x / 16777216 % 256 ∷ x / 65536 % 256 ∷ x / 256 % 256 ∷ x % 256 ∷ []
+bytes-four x = ap (λ (b : ℕ). x / 16777216 % 256 ∷ x / 65536 % 256 ∷ x / 256 % 256 ∷ b ∷ []) (last x)
+
+pub bytes-eight : (x : ℕ)
+  → bytes 8 x ≡ x / 72057594037927936 % 256 ∷ x / 281474976710656 % 256 ∷ x / 1099511627776 % 256 ∷ x / 4294967296 % 256
+      ∷ x / 16777216 % 256 ∷ x / 65536 % 256 ∷ x / 256 % 256 ∷ x % 256 ∷ []
+bytes-eight x =
+    ap (λ (b : ℕ). x / 72057594037927936 % 256 ∷ x / 281474976710656 % 256 ∷ x / 1099511627776 % 256 ∷ x / 4294967296 % 256
+      ∷ x / 16777216 % 256 ∷ x / 65536 % 256 ∷ x / 256 % 256 ∷ b ∷ []) (last x)
+
+-- higher bytes do not matter
+pub bytes-mod : (n x : ℕ) → bytes n (x % 2 ^ (8 * n)) ≡ bytes n x
+bytes-mod n x =
+    sym (split-low (replicate n 8) (x / 2 ^ (8 * n)) (x % 2 ^ (8 * n)))
+    ∙ ap (λ (k : ℕ). split (replicate n 8) (x % 2 ^ (8 * n) + x / 2 ^ (8 * n) * 2 ^ k)) (sum-eights n)
+    ∙ ap (split (replicate n 8)) (mod-add-div' x (2 ^ (8 * n)))
+
+-- a field that fills whole bytes
+pub encode-one : (n v : ℕ) → encode (8 * n ∷ []) (v ∷ []) ≡ bytes n v
+encode-one n v =
+    ap₂ bytes (count n) (ap (λ (m : ℕ). m + 0) (mul-one (v % 2 ^ (8 * n))) ∙ add-zero (v % 2 ^ (8 * n))) ∙ bytes-mod n v
+  where
+    count : (n : ℕ) → (8 * n + 0) / 8 ≡ n
+    count n = omega arith
