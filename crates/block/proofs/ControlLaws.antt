@@ -7,8 +7,22 @@ use native.Mathlib.Nat.{mod-lt, le-of-suc-le-suc, not-suc-le-zero}
 use lib.ListN.{length, getD}
 use lib.Dec.{eqb, lit<}
 use Rattle.block.specs.Fields.{bit, decode, encode, value, split}
-use Rattle.block.specs.Control.{widths1, fields1, fromFields1, bytes1, control1Of, widths2, fields2, fromFields2, bytes2,
-  control2Of, Control1-decodes, Control1-encodes, Control2-decodes, Control2-encodes}
+use Rattle.block.specs.Control.{
+  widths1,
+  fields1,
+  fromFields1,
+  bytes1,
+  control1Of,
+  widths2,
+  fields2,
+  fromFields2,
+  bytes2,
+  control2Of,
+  Control1-decodes,
+  Control1-encodes,
+  Control2-decodes,
+  Control2-encodes,
+}
 use Rattle.block.specs.declared.control.Control1.{Control1}
 use Rattle.block.specs.declared.control.Control2.{Control2}
 use Rattle.block.proofs.Fields.{decode-encode, encode-decode}
@@ -24,9 +38,19 @@ bit-flag (suc (suc x)) h = absurd (not-suc-le-zero (le-of-suc-le-suc (le-of-suc-
 
 control1-fields : (c : Control1) → fromFields1 (fields1 c) ≡ c
 control1-fields c = λ i. record {
-  reserved = c .reserved; format = c .format; mark = c .mark; compression = c .compression; object = c .object;
-  sequence = c .sequence; «file_mark_offset» = c .«file_mark_offset»; «file_mark_number» = c .«file_mark_number»; kind = c .kind;
-  «early_warning» = flag-bit (c .«early_warning») i; entities = c .entities; back = c .back }
+  reserved = c .reserved;
+  format = c .format;
+  mark = c .mark;
+  compression = c .compression;
+  object = c .object;
+  sequence = c .sequence;
+  «file_mark_offset» = c .«file_mark_offset»;
+  «file_mark_number» = c .«file_mark_number»;
+  kind = c .kind;
+  «early_warning» = flag-bit (c .«early_warning») i;
+  entities = c .entities;
+  back = c .back;
+}
 
 pub control1-decodes : Control1-decodes
 unfolding bytes1 control1Of
@@ -34,9 +58,18 @@ control1-decodes c h = ap fromFields1 (decode-encode widths1 (fields1 c) 20 refl
 
 control2-fields : (c : Control2) → fromFields2 (fields2 c) ≡ c
 control2-fields c = λ i. record {
-  reserved = c .reserved; offset = c .offset; first = c .first; place = c .place; blocks = c .blocks;
-  starts = flag-bit (c .starts) i; entity = c .entity; envelope = c .envelope; tag = c .tag; k = flag-bit (c .k) i;
-  track = c .track }
+  reserved = c .reserved;
+  offset = c .offset;
+  first = c .first;
+  place = c .place;
+  blocks = c .blocks;
+  starts = flag-bit (c .starts) i;
+  entity = c .entity;
+  envelope = c .envelope;
+  tag = c .tag;
+  k = flag-bit (c .k) i;
+  track = c .track;
+}
 
 pub control2-decodes : Control2-decodes
 unfolding bytes2 control2Of
@@ -58,7 +91,7 @@ control1-encodes bs l h =
 fields2-back : (x : ℕ) → fields2 (fromFields2 (split widths2 x)) ≡ split widths2 x
 fields2-back x = λ i.
     f 0 ∷ f 1 ∷ f 2 ∷ f 3 ∷ f 4 ∷ bit-flag (f 5) (mod-lt (x / 2 ^ 56) (lit< tt)) i ∷ f 6 ∷ f 7 ∷ f 8
-      ∷ bit-flag (f 9) (mod-lt (x / 2 ^ 7) (lit< tt)) i ∷ f 10 ∷ []
+    ∷ bit-flag (f 9) (mod-lt (x / 2 ^ 7) (lit< tt)) i ∷ f 10 ∷ []
   where
     f : ℕ → ℕ
     f n = getD (split widths2 x) n 0

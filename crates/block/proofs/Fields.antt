@@ -15,19 +15,19 @@ join-lt [] vs = lit< tt
 join-lt (w ∷ ws) [] = pow-pos (w + sum ws)
 join-lt (w ∷ ws) (v ∷ vs) =
     subst (λ (m : ℕ). v % 2 ^ w * 2 ^ sum ws + join ws vs < m) (sym (pow-add 2 w (sum ws)))
-      (digits-lt (mod-lt v (pow-pos w)) (join-lt ws vs))
+    (digits-lt (mod-lt v (pow-pos w)) (join-lt ws vs))
 
 -- bits above the fields do not matter
 pub split-low : (ws : List ℕ) (a x : ℕ) → split ws (x + a * 2 ^ sum ws) ≡ split ws x
 split-low [] a x = refl
 split-low (w ∷ ws) a x =
     let up : x + a * 2 ^ (w + sum ws) ≡ x + a * 2 ^ w * 2 ^ sum ws =
-        ap (λ (m : ℕ). x + m) (ap (λ (m : ℕ). a * m) (pow-add 2 w (sum ws)) ∙ sym (mul-assoc a (2 ^ w) (2 ^ sum ws))) in
+    ap (λ (m : ℕ). x + m) (ap (λ (m : ℕ). a * m) (pow-add 2 w (sum ws)) ∙ sym (mul-assoc a (2 ^ w) (2 ^ sum ws))) in
     ap₂ _∷_
-      (ap (λ (m : ℕ). m / 2 ^ sum ws % 2 ^ w) up
-       ∙ ap (λ (m : ℕ). m % 2 ^ w) (add-mul-div-right x (a * 2 ^ w) (pow-pos (sum ws)))
-       ∙ add-mul-mod-self-right (x / 2 ^ sum ws) a (2 ^ w))
-      (ap (split ws) up ∙ split-low ws (a * 2 ^ w) x)
+    (ap (λ (m : ℕ). m / 2 ^ sum ws % 2 ^ w) up
+    ∙ ap (λ (m : ℕ). m % 2 ^ w) (add-mul-div-right x (a * 2 ^ w) (pow-pos (sum ws)))
+    ∙ add-mul-mod-self-right (x / 2 ^ sum ws) a (2 ^ w))
+    (ap (split ws) up ∙ split-low ws (a * 2 ^ w) x)
 
 pub split-join : (ws vs : List ℕ) → Within ws vs → split ws (join ws vs) ≡ vs
 split-join [] [] h = refl
@@ -36,8 +36,8 @@ split-join (w ∷ ws) [] h = absurd h
 split-join (w ∷ ws) (v ∷ vs) h =
     let e : v % 2 ^ w ≡ v = mod-eq-of-lt (h .0) in
     ap₂ _∷_
-      (ap (λ (m : ℕ). m % 2 ^ w) (high (v % 2 ^ w) (sum ws) (join-lt ws vs)) ∙ ap (λ (m : ℕ). m % 2 ^ w) e ∙ e)
-      (ap (split ws) (add-comm (v % 2 ^ w * 2 ^ sum ws) (join ws vs)) ∙ split-low ws (v % 2 ^ w) (join ws vs) ∙ split-join ws vs (h .1))
+    (ap (λ (m : ℕ). m % 2 ^ w) (high (v % 2 ^ w) (sum ws) (join-lt ws vs)) ∙ ap (λ (m : ℕ). m % 2 ^ w) e ∙ e)
+    (ap (split ws) (add-comm (v % 2 ^ w * 2 ^ sum ws) (join ws vs)) ∙ split-low ws (v % 2 ^ w) (join ws vs) ∙ split-join ws vs (h .1))
 
 pub join-split : (ws : List ℕ) (x : ℕ) → join ws (split ws x) ≡ x % 2 ^ sum ws
 join-split [] x = sym (mod-one x)
@@ -79,7 +79,7 @@ pub decode-encode : Decode-encode
 decode-encode ws vs n e h =
     ap (λ (m : ℕ). split ws (value (bytes m (join ws vs)))) (eighth (sum ws) n e)
     ∙ ap (split ws) (value-bytes n (join ws vs)
-        ∙ mod-eq-of-lt (subst (λ (k : ℕ). join ws vs < 2 ^ k) e (join-lt ws vs)))
+    ∙ mod-eq-of-lt (subst (λ (k : ℕ). join ws vs < 2 ^ k) e (join-lt ws vs)))
     ∙ split-join ws vs h
 
 pub value-lt : (bs : List ℕ) → value bs < 2 ^ (8 * length bs)
@@ -89,5 +89,5 @@ pub encode-decode : Encode-decode
 encode-decode ws bs e h =
     ap (λ (m : ℕ). bytes m (join ws (split ws (value bs)))) (eighth (sum ws) (length bs) e)
     ∙ ap (bytes (length bs))
-        (join-split ws (value bs) ∙ mod-eq-of-lt (subst (λ (k : ℕ). value bs < 2 ^ k) (sym e) (value-lt bs)))
+    (join-split ws (value bs) ∙ mod-eq-of-lt (subst (λ (k : ℕ). value bs < 2 ^ k) (sym e) (value-lt bs)))
     ∙ bytes-value bs h

@@ -4,3 +4,4 @@ pub mod Digits
 pub mod Numbers
 pub mod ControlLaws
 pub mod ControlBytes
+pub mod ControlRead

@@ -35,7 +35,7 @@ module _ (bs : List ℕ) (a : ℕ) (small : (q : ℕ) → getD bs q 0 < 256) whe
       go b c h k = omega arith
 
   pub value-three : a + 3 ≤ length bs
-    → value (take 3 (drop a bs)) ≡ getD bs a 0 * 65536 + getD bs (a + 1) 0 * 256 + getD bs (a + 2) 0
+      → value (take 3 (drop a bs)) ≡ getD bs a 0 * 65536 + getD bs (a + 1) 0 * 256 + getD bs (a + 2) 0
   unfolding part
   value-three h =
       ap value (take-part 3 a bs h) ∙ go (getD bs a 0) (getD bs (a + 1) 0) (getD bs (a + 1 + 1) 0) (small a) (small (a + 1)) (small (a + 1 + 1))
@@ -45,20 +45,20 @@ module _ (bs : List ℕ) (a : ℕ) (small : (q : ℕ) → getD bs q 0 < 256) whe
       go b c d h k l = omega arith
 
   pub value-four : a + 4 ≤ length bs
-    → value (take 4 (drop a bs)) ≡ getD bs a 0 * 16777216 + getD bs (a + 1) 0 * 65536 + getD bs (a + 2) 0 * 256 + getD bs (a + 3) 0
+      → value (take 4 (drop a bs)) ≡ getD bs a 0 * 16777216 + getD bs (a + 1) 0 * 65536 + getD bs (a + 2) 0 * 256 + getD bs (a + 3) 0
   unfolding part
   value-four h =
       ap value (take-part 4 a bs h)
       ∙ go (getD bs a 0) (getD bs (a + 1) 0) (getD bs (a + 1 + 1) 0) (getD bs (a + 1 + 1 + 1) 0) (small a) (small (a + 1)) (small (a + 1 + 1)) (small (a + 1 + 1 + 1))
       ∙ ap₂ (λ (k l : ℕ). getD bs a 0 * 16777216 + getD bs (a + 1) 0 * 65536 + getD bs k 0 * 256 + getD bs l 0)
-          (let e : a + 1 + 1 ≡ a + 2 = omega arith in e) (let e : a + 1 + 1 + 1 ≡ a + 3 = omega arith in e)
+      (let e : a + 1 + 1 ≡ a + 2 = omega arith in e) (let e : a + 1 + 1 + 1 ≡ a + 3 = omega arith in e)
     where
       go : (b c d e : ℕ) → b < 256 → c < 256 → d < 256 → e < 256 → value (b ∷ c ∷ d ∷ e ∷ []) ≡ b * 16777216 + c * 65536 + d * 256 + e
       go b c d e h k l m = omega arith
 
 -- eight bytes are four and four more
 pub value-eight : (bs : List ℕ) (a : ℕ) → a + 8 ≤ length bs
-  → value (take 8 (drop a bs)) ≡ value (take 4 (drop a bs)) * 4294967296 + value (take 4 (drop (a + 4) bs))
+    → value (take 8 (drop a bs)) ≡ value (take 4 (drop a bs)) * 4294967296 + value (take 4 (drop (a + 4) bs))
 value-eight bs a h =
     let long : length (take 4 (drop (a + 4) bs)) ≡ 4 = simp (length-take, length-drop) (omega arith) in
     ap value (eight-parts (drop a bs) ∙ ap (λ (t : List ℕ). take 4 (drop a bs) ++ take 4 t) (drop-drop 4 a bs))

@@ -7,13 +7,17 @@
 --   value bs           the number that the bytes bs write, high byte first
 --   encode ws vs       the fields vs as bytes
 --   decode ws bs       the fields in the bytes bs
+--   sized n bs x       x, if bs are n bytes
 --   Within ws vs       there are as many values as widths, and each fits its width
 --   AllBytes bs           each of bs is below 256
 use mathlib.Core.Path.{_≡_}
 use mathlib.Core.List.{List, [], _∷_}
-use mathlib.Core.Bool.{Bool, true, false}
+use mathlib.Core.Bool.{Bool, true, false, cond}
 use Prim.Native.Nat.{ℕ, _+_, _*_, _/_, _%_, _^_, _<_}
+use lib.Dec.{eqb}
 use lib.ListN.{length, replicate}
+use Rattle.std.specs.declared.option.Option.{Option}
+use Rattle.std.specs.declared.option.Option.the-variants.{Some, None}
 
 abbrev pub sum : List ℕ → ℕ
 sum [] = 0
@@ -39,6 +43,10 @@ encode ws vs = bytes (sum ws / 8) (join ws vs)
 
 abbrev pub decode : List ℕ → List ℕ → List ℕ
 decode ws bs = split ws (value bs)
+
+-- what n bytes hold; nothing if there are more or fewer
+abbrev pub sized : {A : Type 0} → ℕ → List ℕ → A → Option A
+sized n bs x = cond (eqb (length bs) n) (Some x) None
 
 -- a field of one bit
 abbrev pub bit : Bool → ℕ

@@ -3,8 +3,11 @@ ghost use mathlib.Core.Path.{_≡_};
 ghost use Prim.Native.Nat.{ℕ, _+_, _*_, _/_, _%_, _<_};
 ghost use lib.ListN.{length, getD};
 ghost use mathlib.Core.List.{[], _∷_};
-ghost use Rattle.block.specs.Fields.{join, bit};
+ghost use Rattle.block.specs.Fields.{join, bit, sized};
 ghost use Rattle.block.specs.Control.{bytes1, control1Of, bytes2, control2Of};
+use crate::number::four;
+use crate::number::three;
+use crate::number::two;
 
 // Control Field 1: what a block is and what it holds.
 #[derive(Clone, Copy, PartialEq, Eq, Drop)]
@@ -75,7 +78,54 @@ impl Control1 {
         let [_, l0, l1, l2] = self.back.to_be_bytes();
         let kind = self.kind_byte();
         let c = self.compression;
-        [h0, h1, h2, h3, t0, t1, t2, c, o0, o1, o2, o3, s0, s1, m0, m1, kind, l0, l1, l2]
+        [
+            h0,
+            h1,
+            h2,
+            h3,
+            t0,
+            t1,
+            t2,
+            c,
+            o0,
+            o1,
+            o2,
+            o3,
+            s0,
+            s1,
+            m0,
+            m1,
+            kind,
+            l0,
+            l1,
+            l2,
+        ]
+    }
+
+    // The field in 20 bytes; nothing for any other number of bytes.
+    pub fn from_bytes(bytes: &[u8]) -> Option<Control1>
+        ensures { λ r. ⌜ r ≡ sized 20 (now (bytes .entry)) (control1Of (now (bytes .entry))) ⌝ }
+    {
+        if bytes.len() != 20 {
+            return None;
+        }
+        let head = four(bytes, 0);
+        let marks = two(bytes, 14);
+        let kind = bytes[16];
+        Some(Control1 {
+            reserved: head / 64,
+            format: (head % 64) as u8,
+            mark: three(bytes, 4),
+            compression: bytes[7],
+            object: four(bytes, 8),
+            sequence: two(bytes, 12),
+            file_mark_offset: (marks / 4096) as u8,
+            file_mark_number: marks % 4096,
+            kind: kind / 32,
+            early_warning: kind / 16 % 2 == 1,
+            entities: kind % 16,
+            back: three(bytes, 17),
+        })
     }
 
     // Reserved and Format.
