@@ -8,7 +8,7 @@ use Rattle.block.specs.Control.{widths1, fields1, bytes1, widths2, fields2, by
 use Rattle.block.specs.declared.control.Control1.{Control1}
 use Rattle.block.specs.declared.control.Control2.{Control2}
 use Rattle.block.proofs.Groups.{group}
-use Rattle.block.proofs.Digits.{bytes-one, bytes-two, bytes-three, bytes-four, encode-one}
+use Rattle.block.proofs.Digits.{bytes-one, bytes-two, bytes-three, bytes-four, bytes-nine, encode-one}
 
 abbrev head1 : Control1 → ℕ
 head1 c = join (26 ∷ 6 ∷ []) (c .reserved ∷ c .format ∷ [])
@@ -52,3 +52,29 @@ bytes1-are c h k eh ek lk lc m em =
 
     one-k : bytes 1 (kind1 c) ≡ k ∷ []
     one-k = ap (bytes 1) (sym ek) ∙ bytes-one k lk
+
+abbrev head2 : Control2 → ℕ
+head2 c = join (5 ∷ 5 ∷ 32 ∷ 24 ∷ 5 ∷ 1 ∷ [])
+    (c .reserved ∷ c .offset ∷ c .first ∷ c .place ∷ c .blocks ∷ bit (c .starts) ∷ [])
+
+abbrev track2 : Control2 → ℕ
+track2 c = join (1 ∷ 7 ∷ []) (bit (c .k) ∷ c .track ∷ [])
+
+groups2 : (c : Control2)
+    → bytes2 c ≡ bytes 9 (head2 c) ++ (bytes 1 (c .entity) ++ (bytes 2 (c .envelope) ++ (bytes 3 (c .tag) ++ bytes 1 (track2 c))))
+unfolding bytes2
+groups2 c =
+    group 6 9 7 widths2 (fields2 c) refl refl refl refl
+    (group 1 1 6 (drop 6 widths2) (drop 6 (fields2 c)) refl refl refl (encode-one 1 (c .entity))
+    (group 1 2 4 (drop 7 widths2) (drop 7 (fields2 c)) refl refl refl (encode-one 2 (c .envelope))
+    (group 1 3 1 (drop 8 widths2) (drop 8 (fields2 c)) refl refl refl (encode-one 3 (c .tag)) refl)))
+
+pub bytes2-are : (c : Control2) (h k : ℕ) → h ≡ head2 c → k ≡ track2 c → k < 256 → c .entity < 256
+    → bytes2 c ≡ h / 18446744073709551616 % 256 ∷ h / 72057594037927936 % 256 ∷ h / 281474976710656 % 256
+    ∷ h / 1099511627776 % 256 ∷ h / 4294967296 % 256 ∷ h / 16777216 % 256 ∷ h / 65536 % 256 ∷ h / 256 % 256 ∷ h % 256
+    ∷ c .entity ∷ c .envelope / 256 % 256 ∷ c .envelope % 256
+    ∷ c .tag / 65536 % 256 ∷ c .tag / 256 % 256 ∷ c .tag % 256 ∷ k ∷ []
+bytes2-are c h k eh ek lk le =
+    groups2 c
+    ∙ (λ i. (ap (bytes 9) (sym eh) ∙ bytes-nine h) i
+    ++ (bytes-one (c .entity) le i ++ (bytes-two (c .envelope) i ++ (bytes-three (c .tag) i ++ (ap (bytes 1) (sym ek) ∙ bytes-one k lk) i))))

@@ -93,3 +93,64 @@ control1-is bs l h m k mark comp obj seq back eh em ek e1 e2 e3 e4 e5 lh lm lk =
 
     entities : at bs 16 1 / 1 % 16 ≡ k % 16
     entities = ap (λ (x : ℕ). x % 16) (div-one (at bs 16 1) ∙ sym ek)
+
+module _ (bs : List ℕ) (l : length bs ≡ 16) where
+  one2 : (n a : ℕ) → a + n ≤ 16 → decode (8 * n ∷ []) (take n (drop a bs)) ≡ at bs a n ∷ []
+  one2 n a h = decode-one n (take n (drop a bs)) (long n a bs (omega arith))
+
+  rest2 : (k : ℕ) → 8 * (16 - k) ≡ 8 * (length bs - k)
+  rest2 k = ap (λ (n : ℕ). 8 * (n - k)) (sym l)
+
+  groups2 : decode widths2 bs
+      ≡ split (5 ∷ 5 ∷ 32 ∷ 24 ∷ 5 ∷ 1 ∷ []) (at bs 0 9)
+      ++ (at bs 9 1 ∷ at bs 10 2 ∷ at bs 12 3 ∷ split (1 ∷ 7 ∷ []) (at bs 15 1))
+  groups2 =
+      degroup 6 0 9 widths2 bs (rest2 9) refl
+      (degroup 1 9 1 (drop 6 widths2) bs (rest2 10) (one2 1 9 (omega arith))
+      (degroup 1 10 2 (drop 7 widths2) bs (rest2 12) (one2 2 10 (omega arith))
+      (degroup 1 12 3 (drop 8 widths2) bs (rest2 15) (one2 3 12 (omega arith))
+      (degroup-last 15 1 (1 ∷ 7 ∷ []) bs (omega arith) refl))))
+
+pub control2-is : (bs : List ℕ) → length bs ≡ 16 → (h k entity envelope tag : ℕ)
+    → h ≡ at bs 0 9 → k ≡ at bs 15 1 → entity ≡ at bs 9 1 → envelope ≡ at bs 10 2 → tag ≡ at bs 12 3 → h < 2 ^ 72 → k < 2 ^ 8
+    → control2Of bs ≡ record {
+      reserved = h / 2 ^ 67;
+      offset = h / 2 ^ 62 % 32;
+      first = h / 2 ^ 30 % 2 ^ 32;
+      place = h / 64 % 2 ^ 24;
+      blocks = h / 2 % 32;
+      starts = eqb (h % 2) 1;
+      entity = entity;
+      envelope = envelope;
+      tag = tag;
+      k = eqb (k / 128) 1;
+      track = k % 128;
+    }
+unfolding control2Of
+control2-is bs l h k entity envelope tag eh ek e1 e2 e3 lh lk =
+    ap fromFields2 (groups2 bs l)
+    ∙ (λ i. record {
+      reserved = reserved i;
+      offset = sym eh i / 2 ^ 62 % 32;
+      first = sym eh i / 2 ^ 30 % 2 ^ 32;
+      place = sym eh i / 64 % 2 ^ 24;
+      blocks = sym eh i / 2 % 32;
+      starts = eqb (starts i) 1;
+      entity = sym e1 i;
+      envelope = sym e2 i;
+      tag = sym e3 i;
+      k = eqb (flag i) 1;
+      track = track i;
+    })
+  where
+    reserved : at bs 0 9 / 2 ^ 67 % 32 ≡ h / 2 ^ 67
+    reserved = ap (λ (x : ℕ). x / 2 ^ 67 % 32) (sym eh) ∙ omega arith
+
+    starts : at bs 0 9 / 1 % 2 ≡ h % 2
+    starts = ap (λ (x : ℕ). x % 2) (div-one (at bs 0 9) ∙ sym eh)
+
+    flag : at bs 15 1 / 128 % 2 ≡ k / 128
+    flag = ap (λ (x : ℕ). x / 128 % 2) (sym ek) ∙ omega arith
+
+    track : at bs 15 1 / 1 % 128 ≡ k % 128
+    track = ap (λ (x : ℕ). x % 128) (div-one (at bs 15 1) ∙ sym ek)

@@ -4,7 +4,7 @@ use mathlib.Core.List.{List, [], _∷_, _++_}
 use Prim.Native.Nat.{ℕ, zero, suc, _+_, _*_, _%_, _^_, _<_, _≤_}
 use native.Mathlib.Omega.{arith}
 use lib.ListN.{length, getD, take, drop, length-take, length-drop}
-use Rattle.std.proofs.shelf.Lists.{drop-more, take-append-drop, drop-drop}
+use Rattle.std.proofs.shelf.Lists.{drop-more, drop-drop, take-more, getD-drop}
 use Rattle.block.specs.Fields.{value}
 use Rattle.block.proofs.Groups.{value-append}
 
@@ -71,3 +71,16 @@ value-eight bs a h =
     eight-parts (a ∷ b ∷ []) = refl
     eight-parts (a ∷ b ∷ c ∷ []) = refl
     eight-parts (a ∷ b ∷ c ∷ d ∷ xs) = refl
+
+-- one byte more
+pub value-nine : (bs : List ℕ) (a : ℕ) → ((q : ℕ) → getD bs q 0 < 256) → a + 9 ≤ length bs
+    → value (take 9 (drop a bs)) ≡ value (take 8 (drop a bs)) * 256 + getD bs (a + 8) 0
+value-nine bs a small h =
+    let long : 8 < length (drop a bs) = simp length-drop (omega arith) in
+    let b : ℕ = getD bs (a + 8) 0 in
+    ap value (take-more (drop a bs) 8 0 long ∙ ap (λ (x : ℕ). take 8 (drop a bs) ++ x ∷ []) (getD-drop a bs 8 0))
+    ∙ value-append (take 8 (drop a bs)) (b ∷ [])
+    ∙ ap (λ (x : ℕ). value (take 8 (drop a bs)) * 256 + x) (byte b (small (a + 8)))
+  where
+    byte : (b : ℕ) → b < 256 → value (b ∷ []) ≡ b
+    byte b h = omega arith

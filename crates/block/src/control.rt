@@ -6,6 +6,7 @@ ghost use mathlib.Core.List.{[], _∷_};
 ghost use Rattle.block.specs.Fields.{join, bit, sized};
 ghost use Rattle.block.specs.Control.{bytes1, control1Of, bytes2, control2Of};
 use crate::number::four;
+use crate::number::nine;
 use crate::number::three;
 use crate::number::two;
 
@@ -147,5 +148,78 @@ impl Control1 {
         ensures { λ r. ⌜ r ≡ join (3 ∷ 1 ∷ 4 ∷ []) (self .kind ∷ bit (self .«early_warning») ∷ self .entities ∷ []) ⌝ }
     {
         self.kind % 8 * 32 + u8::from(self.early_warning) * 16 + self.entities % 16
+    }
+}
+
+impl Control2 {
+    // The 16 bytes of the field; a value wider than its bits keeps its low ones.
+    pub fn to_bytes(self) -> [u8; 16]
+        ensures { λ r. ⌜ r ≡ bytes2 self ⌝ }
+    {
+        let [_, _, _, _, _, _, _, h0, h1, h2, h3, h4, h5, h6, h7, h8] = self.head().to_be_bytes();
+        let [v0, v1] = self.envelope.to_be_bytes();
+        let [_, t0, t1, t2] = self.tag.to_be_bytes();
+        let track = self.track_byte();
+        [
+            h0,
+            h1,
+            h2,
+            h3,
+            h4,
+            h5,
+            h6,
+            h7,
+            h8,
+            self.entity,
+            v0,
+            v1,
+            t0,
+            t1,
+            t2,
+            track,
+        ]
+    }
+
+    // The field in 16 bytes; nothing for any other number of bytes.
+    pub fn from_bytes(bytes: &[u8]) -> Option<Control2>
+        ensures { λ r. ⌜ r ≡ sized 16 (now (bytes .entry)) (control2Of (now (bytes .entry))) ⌝ }
+    {
+        if bytes.len() != 16 {
+            return None;
+        }
+        let head = nine(bytes, 0);
+        let track = bytes[15];
+        Some(Control2 {
+            reserved: (head >> 67) as u8,
+            offset: ((head >> 62) % 32) as u8,
+            first: ((head >> 30) % 0x1_0000_0000) as u32,
+            place: ((head >> 6) % 0x100_0000) as u32,
+            blocks: ((head >> 1) % 32) as u8,
+            starts: head % 2 == 1,
+            entity: bytes[9],
+            envelope: two(bytes, 10),
+            tag: three(bytes, 12),
+            k: track / 128 == 1,
+            track: track % 128,
+        })
+    }
+
+    // Everything before the Entity Number.
+    fn head(self) -> u128
+        ensures { λ r. ⌜ r ≡ join (5 ∷ 5 ∷ 32 ∷ 24 ∷ 5 ∷ 1 ∷ []) (self .reserved ∷ self .offset ∷ self .first ∷ self .place ∷ self .blocks ∷ bit (self .starts) ∷ []) ⌝ }
+    {
+        (u128::from(self.reserved % 32) << 67)
+            + (u128::from(self.offset % 32) << 62)
+            + (u128::from(self.first) << 30)
+            + (u128::from(self.place % 0x100_0000) << 6)
+            + u128::from(self.blocks % 32) * 2
+            + u128::from(self.starts)
+    }
+
+    // K and the Logical Track Number.
+    fn track_byte(self) -> u8
+        ensures { λ r. ⌜ r ≡ join (1 ∷ 7 ∷ []) (bit (self .k) ∷ self .track ∷ []) ⌝ }
+    {
+        u8::from(self.k) * 128 + self.track % 128
     }
 }

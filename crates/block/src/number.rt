@@ -36,3 +36,12 @@ pub(crate) fn eight(bytes: &[u8], at: usize) -> u64
 {
     u64::from(four(bytes, at)) * 0x1_0000_0000 + u64::from(four(bytes, at + 4))
 }
+
+// The number in nine bytes.
+pub(crate) fn nine(bytes: &[u8], at: usize) -> u128
+    requires { ⌜ at + 9 ≤ length (now bytes) ⌝ }
+    ensures is { λ r. ⌜ r ≡ value (take 9 (drop at (now (bytes .entry)))) ⌝ }
+    ensures small { λ r. ⌜ r < 2 ^ 72 ⌝ }
+{
+    u128::from(eight(bytes, at)) * 256 + u128::from(bytes[at + 8])
+}
