@@ -5,3 +5,4 @@ pub mod Numbers
 pub mod ControlLaws
 pub mod ControlBytes
 pub mod ControlRead
+pub mod EntryLaws
