@@ -6,7 +6,7 @@ use Prim.Native.Nat.{ℕ, zero, suc, _*_, _/_, _%_, _^_, _<_}
 use native.Mathlib.Nat.{mod-lt, le-of-suc-le-suc, not-suc-le-zero}
 use lib.ListN.{length, getD}
 use lib.Dec.{eqb, lit<}
-use Rattle.block.specs.Fields.{bit, decode, encode, value, split}
+use Rattle.fields.specs.Bits.{bit, decode, encode, value, split}
 use Rattle.block.specs.Control.{
   widths1,
   fields1,
@@ -25,7 +25,7 @@ use Rattle.block.specs.Control.{
 }
 use Rattle.block.specs.declared.control.Control1.{Control1}
 use Rattle.block.specs.declared.control.Control2.{Control2}
-use Rattle.block.proofs.Fields.{decode-encode, encode-decode}
+use Rattle.fields.proofs.BitLaws.{decode-encode, encode-decode}
 
 pub flag-bit : (b : Bool) → eqb (bit b) 1 ≡ b
 flag-bit true = refl

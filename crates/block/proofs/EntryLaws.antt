@@ -7,12 +7,12 @@ use native.Mathlib.Nat.{mod-lt, div-one}
 use native.Mathlib.Omega.{arith}
 use lib.ListN.{length, getD, take, drop, length-take, length-drop}
 use lib.Dec.{eqb, lit<}
-use Rattle.block.specs.Fields.{join, split, bytes, value, encode, decode, bit}
+use Rattle.fields.specs.Bits.{join, split, bytes, value, encode, decode, bit}
 use Rattle.block.specs.Entry.{entryWidths, entryFields, fromEntryFields, entryBytes, entryOf, Entry-decodes, Entry-encodes}
 use Rattle.block.specs.declared.entry.Entry.{Entry}
-use Rattle.block.proofs.Fields.{decode-encode, encode-decode}
-use Rattle.block.proofs.Groups.{group, degroup, degroup-last}
-use Rattle.block.proofs.Digits.{bytes-two, bytes-four, encode-one, decode-one}
+use Rattle.fields.proofs.BitLaws.{decode-encode, encode-decode}
+use Rattle.fields.proofs.Groups.{group, degroup, degroup-last}
+use Rattle.fields.proofs.Digits.{bytes-two, bytes-four, encode-one, decode-one}
 use Rattle.block.proofs.ControlLaws.{flag-bit, bit-flag}
 
 entry-fields : (e : Entry) → fromEntryFields (entryFields e) ≡ e

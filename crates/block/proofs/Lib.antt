@@ -1,7 +1,3 @@
-pub mod Fields
-pub mod Groups
-pub mod Digits
-pub mod Numbers
 pub mod ControlLaws
 pub mod ControlBytes
 pub mod ControlRead

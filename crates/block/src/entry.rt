@@ -1,7 +1,7 @@
 // A MAP entry: what one page of a block is.
 ghost use mathlib.Core.Path.{_≡_};
 ghost use mathlib.Core.List.{[], _∷_};
-ghost use Rattle.block.specs.Fields.{join, bit, sized};
+ghost use Rattle.fields.specs.Bits.{join, bit, sized};
 ghost use Rattle.block.specs.Entry.{entryBytes, entryOf};
 
 // Page Type of a page that only fills the block up.

@@ -10,4 +10,4 @@ pub use entry::DATA;
 pub use entry::Entry;
 pub use entry::FILLER;
 pub use entry::TAPE_MARK;
-pub use laws::fields_stand;
+pub use laws::layouts_stand;

@@ -6,8 +6,8 @@ use borrow.Author.Needs.{needs}
 use lib.ListN.{length, getD}
 use Rattle.std.specs.declared.option.Option.the-variants.{Some}
 use Rattle.block.specs.Control.{control1Of}
-use Rattle.block.proofs.Digits.{sized-is}
-use Rattle.block.proofs.Numbers.{value-one}
+use Rattle.fields.proofs.Digits.{sized-is}
+use Rattle.fields.proofs.Numbers.{value-one}
 use Rattle.block.proofs.ControlRead.{control1-is}
 use Rattle.block.proofs.control.Control1.from_bytes.Needs as need
 

@@ -6,8 +6,8 @@ use borrow.Author.Needs.{needs}
 use lib.ListN.{length, getD}
 use Rattle.std.specs.declared.option.Option.the-variants.{Some}
 use Rattle.block.specs.Entry.{entryOf}
-use Rattle.block.proofs.Digits.{sized-is}
-use Rattle.block.proofs.Numbers.{value-two, value-four}
+use Rattle.fields.proofs.Digits.{sized-is}
+use Rattle.fields.proofs.Numbers.{value-two, value-four}
 use Rattle.block.proofs.EntryLaws.{entry-is}
 use Rattle.block.proofs.entry.Entry.from_bytes.Needs as need
 

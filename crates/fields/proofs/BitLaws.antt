@@ -1,4 +1,4 @@
--- Fields: decoding undoes encoding, and encoding undoes decoding, by induction over the widths. Assumes nothing.
+-- Fields of bits: decoding undoes encoding, and encoding undoes decoding, by induction over the widths. Assumes nothing.
 use mathlib.Core.Path.{_≡_, refl, sym, ap, ap₂, _∙_, subst}
 use mathlib.Core.List.{List, [], _∷_, _++_}
 use Prim.Native.Nat.{ℕ, zero, suc, _+_, _*_, _/_, _%_, _^_, _<_}
@@ -8,7 +8,7 @@ use lib.ListN.{length, replicate, length-replicate}
 use lib.Pow.{pow-add, pow-pos, high, low, mod-pow-add}
 use lib.Arith.{digits-lt, lt-one}
 use lib.Dec.{lit<}
-use Rattle.block.specs.Fields.{sum, join, split, bytes, value, encode, decode, Within, AllBytes, Decode-encode, Encode-decode}
+use Rattle.fields.specs.Bits.{sum, join, split, bytes, value, encode, decode, Within, AllBytes, Decode-encode, Encode-decode}
 
 pub join-lt : (ws vs : List ℕ) → join ws vs < 2 ^ sum ws
 join-lt [] vs = lit< tt

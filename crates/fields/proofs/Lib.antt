@@ -1,0 +1,4 @@
+pub mod BitLaws
+pub mod Groups
+pub mod Digits
+pub mod Numbers
