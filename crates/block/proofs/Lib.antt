@@ -2,3 +2,4 @@ pub mod ControlLaws
 pub mod ControlBytes
 pub mod ControlRead
 pub mod EntryLaws
+pub mod EdcLaws

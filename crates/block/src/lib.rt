@@ -1,11 +1,13 @@
 // The block of a DLT 5 tape: its control fields, maps and pages, how it is made and sealed, and when it is sound.
 mod control;
+mod edc;
 mod entry;
 mod laws;
 mod number;
 
 pub use control::Control1;
 pub use control::Control2;
+pub use edc::edc_of;
 pub use entry::DATA;
 pub use entry::Entry;
 pub use entry::FILLER;
