@@ -1,0 +1,113 @@
+-- The laws of the CRC. Assumes nothing.
+use mathlib.Core.Path.{_≡_, refl, sym, ap, _∙_, subst}
+use mathlib.Core.List.{List, [], _∷_, _++_}
+use Prim.Native.Nat.{ℕ, zero, suc, _+_, _*_, _-_, _%_, _^_, _<_, _≤_}
+use native.Mathlib.Nat.{mod-lt, mod-eq-of-lt, eq-of-mul-eq-mul-right, mul-le-mul-right, mul-comm, suc-mul}
+use native.Mathlib.Omega.{arith}
+use lib.Bits.{bitXor, xor-self, xor-assoc}
+use lib.Dec.{lit<}
+use lib.ListN.{length}
+use Rattle.std.proofs.shelf.Bits.{pow-add}
+use Rattle.crc.specs.Crc.{crc, crcMore}
+use Rattle.crc.specs.Laws.{
+  bigEndian,
+  xorBytes,
+  AreBytes,
+  Closed-gives-zero,
+  Zero-only-if-closed,
+  Is-linear,
+  Shows-a-changed-burst,
+}
+use Rattle.crc.proofs.Linear.{
+  zeros,
+  crc-append,
+  crc-lt,
+  crc-zeros,
+  more-append,
+  more-lt,
+  more-xor,
+  more-apart,
+  same-from-more,
+  xorBytes-self,
+}
+use Rattle.crc.proofs.Words.{
+  value,
+  value-lt,
+  bigEndian-value,
+  bigEndian-bytes,
+  crc-bigEndian,
+  more-eight,
+  pos-from-mul,
+}
+
+pub is-linear : Is-linear
+is-linear xs ys e = more-xor 0 0 xs ys e
+
+pub closed-gives-zero : Closed-gives-zero
+closed-gives-zero bs =
+    let own : List ℕ = bigEndian 8 (crc bs) in
+    crc-append bs own ∙ more-eight (crc bs) own (crc-lt bs) refl ∙ ap crc (xorBytes-self own) ∙ crc-zeros 8
+
+fits-above : (s p v : ℕ) → s * p ≡ 2 ^ 64 → v < p → v * s < 2 ^ 64
+fits-above s p v e h =
+    omega (arith, mul-le-mul-right s h, suc-mul v s, mul-comm s p, pos-from-mul s p (omega arith))
+
+-- s moves n bytes to the top of the register
+same-value : (n s v w : ℕ) → s * 256 ^ n ≡ 2 ^ 64 → v < 256 ^ n → w < 256 ^ n
+    → crc (bigEndian n v) ≡ crc (bigEndian n w) → v ≡ w
+same-value n s v w unit hv hw e =
+    let same : v * s % 2 ^ 64 ≡ w * s % 2 ^ 64 =
+    same-from-more (v * s % 2 ^ 64) (w * s % 2 ^ 64) (zeros n) (mod-lt (v * s) (lit< tt)) (mod-lt (w * s) (lit< tt))
+    (crc-bigEndian n s v unit ∙ e ∙ sym (crc-bigEndian n s w unit)) in
+    eq-of-mul-eq-mul-right s (pos-from-mul s (256 ^ n) (omega arith)) v w
+    (sym (mod-eq-of-lt (fits-above s (256 ^ n) v unit hv)) ∙ same ∙ mod-eq-of-lt (fits-above s (256 ^ n) w unit hw))
+
+again : (n : ℕ) (bs : List ℕ) → AreBytes bs → length bs ≡ n → bigEndian n (value bs) ≡ bs
+again n bs h e = ap (λ m. bigEndian m (value bs)) (sym e) ∙ bigEndian-value bs h
+
+below : (n : ℕ) (bs : List ℕ) → AreBytes bs → length bs ≡ n → value bs < 256 ^ n
+below n bs h e = subst (λ (m : ℕ). value bs < 256 ^ m) e (value-lt bs h)
+
+-- at most eight bytes are known by their CRC
+same-from-crc : (xs ys : List ℕ) → AreBytes xs → AreBytes ys → length xs ≡ length ys → length xs ≤ 8
+    → crc xs ≡ crc ys → xs ≡ ys
+same-from-crc xs ys hx hy e short same =
+    let n : ℕ = length xs in
+    let eight : 8 - n + n ≡ 8 = omega arith in
+    let unit : 256 ^ (8 - n) * 256 ^ n ≡ 2 ^ 64 = sym (pow-add 256 (8 - n) n) ∙ ap (λ k. 256 ^ k) eight in
+    let xs-again : bigEndian n (value xs) ≡ xs = again n xs hx refl in
+    let ys-again : bigEndian n (value ys) ≡ ys = again n ys hy (sym e) in
+    sym xs-again
+    ∙ ap (bigEndian n)
+    (same-value n (256 ^ (8 - n)) (value xs) (value ys) unit (below n xs hx refl) (below n ys hy (sym e))
+    (ap crc xs-again ∙ same ∙ sym (ap crc ys-again)))
+    ∙ ys-again
+
+xor-undo : (a b : ℕ) → bitXor a (bitXor a b) ≡ b
+xor-undo a b = sym (xor-assoc a a b) ∙ ap (λ x. bitXor x b) (xor-self a)
+
+-- and by what they make of any register
+same-from-register : (c : ℕ) (xs ys : List ℕ) → AreBytes xs → AreBytes ys → length xs ≡ length ys → length xs ≤ 8
+    → crcMore c xs ≡ crcMore c ys → xs ≡ ys
+same-from-register c xs ys hx hy e short same =
+    let far : ℕ = crcMore c (zeros (length xs)) in
+    let both : bitXor far (crc xs) ≡ bitXor far (crc ys) =
+    sym (more-apart c xs) ∙ same ∙ more-apart c ys
+    ∙ ap (λ n. bitXor (crcMore c (zeros n)) (crc ys)) (sym e) in
+    same-from-crc xs ys hx hy e short
+    (sym (xor-undo far (crc xs)) ∙ ap (bitXor far) both ∙ xor-undo far (crc ys))
+
+pub shows-a-changed-burst : Shows-a-changed-burst
+shows-a-changed-burst front back xs ys hx hy e short same =
+    let c : ℕ = crc front in
+    let split : (zs : List ℕ) → crc (front ++ (zs ++ back)) ≡ crcMore (crcMore c zs) back =
+    λ zs. crc-append front (zs ++ back) ∙ more-append c zs back in
+    same-from-register c xs ys hx hy e short
+    (same-from-more (crcMore c xs) (crcMore c ys) back (more-lt c xs (crc-lt front)) (more-lt c ys (crc-lt front))
+    (sym (split xs) ∙ same ∙ split ys))
+
+pub zero-only-if-closed : Zero-only-if-closed
+zero-only-if-closed bs ys hy e none =
+    let own : List ℕ = bigEndian 8 (crc bs) in
+    same-from-register (crc bs) ys own hy (bigEndian-bytes 8 (crc bs)) e (omega arith)
+    (sym (crc-append bs ys) ∙ none ∙ sym (closed-gives-zero bs) ∙ crc-append bs own)

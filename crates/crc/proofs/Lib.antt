@@ -1,0 +1,7 @@
+mod Table
+mod Entries
+pub mod Steps
+pub mod Linear
+pub mod Words
+mod Eights
+pub mod Lawful

@@ -1,0 +1,42 @@
+-- What the CRC is good for, as laws over all bytes. Assumes nothing.
+--
+--   bigEndian n x    the n lowest bytes of the number x, the high byte first
+--   xorBytes xs ys   the bytes xs and ys exclusive-ored place by place
+--   AreBytes xs      each number of xs is below 256
+--   Closed-gives-zero        bytes with their own CRC behind them have the CRC 0
+--   Zero-only-if-closed      and with any other eight bytes behind them they have not
+--   Is-linear                the CRC of an exclusive-or is the exclusive-or of the CRCs
+--   Shows-a-changed-burst    no change within eight neighbouring bytes leaves the CRC as it was
+use mathlib.Core.Path.{_≡_}
+use mathlib.Core.List.{List, [], _∷_, _++_}
+use Prim.Native.Nat.{ℕ, zero, suc, _/_, _%_, _^_, _<_, _≤_}
+use lib.Bits.{bitXor}
+use lib.ListN.{length, getD}
+use Rattle.crc.specs.Crc.{crc}
+
+abbrev pub bigEndian : ℕ → ℕ → List ℕ
+bigEndian zero x = []
+bigEndian (suc n) x = (x / 256 ^ n % 256) ∷ bigEndian n x
+
+abbrev pub xorBytes : List ℕ → List ℕ → List ℕ
+xorBytes [] ys = []
+xorBytes (x ∷ xs) [] = []
+xorBytes (x ∷ xs) (y ∷ ys) = bitXor x y ∷ xorBytes xs ys
+
+abbrev pub AreBytes : List ℕ → Type 0
+AreBytes xs = (k : ℕ) → getD xs k 0 < 256
+
+abbrev pub Closed-gives-zero : Type 0
+Closed-gives-zero = (bs : List ℕ) → crc (bs ++ bigEndian 8 (crc bs)) ≡ 0
+
+abbrev pub Zero-only-if-closed : Type 0
+Zero-only-if-closed =
+    (bs ys : List ℕ) → AreBytes ys → length ys ≡ 8 → crc (bs ++ ys) ≡ 0 → ys ≡ bigEndian 8 (crc bs)
+
+abbrev pub Is-linear : Type 0
+Is-linear = (xs ys : List ℕ) → length xs ≡ length ys → crc (xorBytes xs ys) ≡ bitXor (crc xs) (crc ys)
+
+abbrev pub Shows-a-changed-burst : Type 0
+Shows-a-changed-burst =
+    (front back xs ys : List ℕ) → AreBytes xs → AreBytes ys → length xs ≡ length ys → length xs ≤ 8
+    → crc (front ++ (xs ++ back)) ≡ crc (front ++ (ys ++ back)) → xs ≡ ys
