@@ -110,10 +110,18 @@ impl Control1 {
         if bytes.len() != 20 {
             return None;
         }
+        Some(Control1::read(bytes))
+    }
+
+    // The field in 20 bytes.
+    pub(crate) fn read(bytes: &[u8]) -> Control1
+        requires { ⌜ length (now bytes) ≡ 20 ⌝ }
+        ensures { λ r. ⌜ r ≡ control1Of (now (bytes .entry)) ⌝ }
+    {
         let head = four(bytes, 0);
         let marks = two(bytes, 14);
         let kind = bytes[16];
-        Some(Control1 {
+        Control1 {
             reserved: head / 64,
             format: (head % 64) as u8,
             mark: three(bytes, 4),
@@ -126,7 +134,7 @@ impl Control1 {
             early_warning: kind / 16 % 2 == 1,
             entities: kind % 16,
             back: three(bytes, 17),
-        })
+        }
     }
 
     // Reserved and Format.
@@ -187,9 +195,17 @@ impl Control2 {
         if bytes.len() != 16 {
             return None;
         }
+        Some(Control2::read(bytes))
+    }
+
+    // The field in 16 bytes.
+    pub(crate) fn read(bytes: &[u8]) -> Control2
+        requires { ⌜ length (now bytes) ≡ 16 ⌝ }
+        ensures { λ r. ⌜ r ≡ control2Of (now (bytes .entry)) ⌝ }
+    {
         let head = nine(bytes, 0);
         let track = bytes[15];
-        Some(Control2 {
+        Control2 {
             reserved: (head >> 67) as u8,
             offset: ((head >> 62) % 32) as u8,
             first: ((head >> 30) % 0x1_0000_0000) as u32,
@@ -201,7 +217,7 @@ impl Control2 {
             tag: three(bytes, 12),
             k: track / 128 == 1,
             track: track % 128,
-        })
+        }
     }
 
     // Everything before the Entity Number.

@@ -2,6 +2,7 @@
 mod control;
 mod edc;
 mod entry;
+mod header;
 mod laws;
 mod number;
 
@@ -12,4 +13,11 @@ pub use entry::DATA;
 pub use entry::Entry;
 pub use entry::FILLER;
 pub use entry::TAPE_MARK;
+pub use header::CHECK_BLOCK;
+pub use header::DATA_BLOCK;
+pub use header::DataHeader;
+pub use header::END_BLOCK;
+pub use header::check_control;
+pub use header::end_control;
+pub use header::end_place;
 pub use laws::layouts_stand;

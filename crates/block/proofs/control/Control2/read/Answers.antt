@@ -4,19 +4,15 @@ use Prim.Native.Nat.{ℕ, _<_}
 use native.Mathlib.Omega.{arith}
 use borrow.Author.Needs.{needs}
 use lib.ListN.{length, getD}
-use Rattle.std.specs.declared.option.Option.the-variants.{Some}
-use Rattle.block.specs.Control.{control2Of}
-use Rattle.fields.proofs.Digits.{sized-is}
 use Rattle.fields.proofs.Numbers.{value-one}
 use Rattle.block.proofs.ControlRead.{control2-is}
-use Rattle.block.proofs.control.Control2.from_bytes.Needs as need
+use Rattle.block.proofs.control.Control2.read.Needs as need
 
 pub returns : need.returns
 returns c =
     let bs = c .args .bytes .now in
-    let l : length bs ≡ 16 = omega arith in
     let small : (q : ℕ) → getD (c .args .bytes .now) q 0 < 256 = λ q. search needs in
-    let e = control2-is bs l (c .nine-head .result) (getD bs 15 0) (getD bs 9 0) (c .two .result) (c .three .result)
+    let e = control2-is bs (c .pre) (c .nine-head .result) (getD bs 15 0) (getD bs 9 0) (c .two .result) (c .three .result)
     (c .nine-head .ensures .is) (sym (value-one bs 15 small (omega arith))) (sym (value-one bs 9 small (omega arith)))
     (c .two .ensures) (c .three .ensures .is) (c .nine-head .ensures .small) (small 15) in
-    ap Some (sym e) ∙ sym (sized-is 16 bs (control2Of bs) l)
+    sym e
