@@ -4,7 +4,7 @@ use mathlib.Core.Bool.{Bool, true, false}
 use mathlib.Core.List.{List, [], _∷_}
 use Prim.Native.Nat.{ℕ, zero, suc, _*_, _/_, _%_, _^_, _<_}
 use native.Mathlib.Nat.{mod-lt, le-of-suc-le-suc, not-suc-le-zero}
-use lib.ListN.{length, getD}
+use lib.ListN.{length, getD, take, drop}
 use lib.Dec.{eqb, lit<}
 use Rattle.fields.specs.Bits.{bit, decode, encode, value, split}
 use Rattle.block.specs.Control.{
@@ -100,3 +100,19 @@ pub control2-encodes : Control2-encodes
 unfolding bytes2 control2Of
 control2-encodes bs l h =
     ap (encode widths2) (fields2-back (value bs)) ∙ encode-decode widths2 bs (ap (λ (n : ℕ). 8 * n) (sym l)) h
+
+pub length-bytes1 : (c : Control1) → length (bytes1 c) ≡ 20
+unfolding bytes1
+length-bytes1 c = refl
+
+pub length-bytes2 : (c : Control2) → length (bytes2 c) ≡ 16
+unfolding bytes2
+length-bytes2 c = refl
+
+pub bytes1-end : (c : Control1) → take 4 (drop 16 (bytes1 c)) ≡ drop 16 (bytes1 c)
+unfolding bytes1
+bytes1-end c = refl
+
+pub length-bytes1-end : (c : Control1) → length (drop 16 (bytes1 c)) ≡ 4
+unfolding bytes1
+length-bytes1-end c = refl

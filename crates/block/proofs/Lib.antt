@@ -3,3 +3,4 @@ pub mod ControlBytes
 pub mod ControlRead
 pub mod EntryLaws
 pub mod EdcLaws
+pub mod Sealing

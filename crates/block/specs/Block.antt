@@ -1,6 +1,7 @@
 -- The block of 8,256 bytes: its layout, how the three kinds are made, and when it is sound. Assumes nothing.
 --
 --   dataField b              bytes 0 to 8,207
+--   zeros n                  n zero bytes
 --   control1At b             what Control Field 1 of b holds; control2At b, Control Field 2
 --   wordBytes w              a two-byte word, low byte first
 --   sealed body              8,248 bytes with their CRC behind them
@@ -8,11 +9,15 @@
 --   dataBlock, endBlock      such a block of type data; the end block, whose Data Field is zeros
 --   checkBlock words n k c2  a block of check words, of whose Control Field 1 only the last four bytes stand
 --   sound b                  the CRC agrees, the type is known, and the EDC agrees where there is one
+--   lengthAnswer b x         x, or the refusal of a buffer b that is no block long
+--   madeOf b x               x in place of b, if b is a block long
 use mathlib.Core.List.{List, [], _∷_, _++_}
-use mathlib.Core.Bool.{Bool, false, _&&_, _||_}
+use mathlib.Core.Bool.{Bool, cond, _&&_, _||_}
 use Prim.Native.Nat.{ℕ, _+_, _*_, _/_, _%_}
-use lib.ListN.{getD, take, drop, replicate}
+use lib.ListN.{length, getD, take, drop, replicate}
 use lib.Dec.{eqb}
+use Rattle.std.specs.declared.result.Result.the-variants.{Ok, Err}
+use Rattle.refusal.specs.Tells.{Answer}
 use Rattle.fields.specs.Bits.{bytes, value}
 use Rattle.crc.specs.Crc.{crc}
 use Rattle.block.specs.Control.{bytes1, control1Of, bytes2, control2Of}
@@ -35,6 +40,9 @@ coveredLen = 8228
 abbrev pub dataField : List ℕ → List ℕ
 dataField b = take fieldLen b
 
+unfoldable pub zeros : ℕ → List ℕ
+zeros n = replicate n 0
+
 unfoldable pub control1At : List ℕ → Control1
 control1At b = control1Of (take 20 (drop 8212 b))
 
@@ -56,9 +64,9 @@ abbrev pub dataBlock : List ℕ → DataHeader → Control2 → List ℕ
 dataBlock field h c2 = fieldBlock field (dataControl h) c2
 
 abbrev pub endBlock : ℕ → ℕ → ℕ → ℕ → List ℕ
-endBlock back place envelope tag = fieldBlock (replicate fieldLen 0) (endControl back) (endPlace place envelope tag)
+endBlock back place envelope tag = fieldBlock (zeros fieldLen) (endControl back) (endPlace place envelope tag)
 
-unfoldable pub checkBlock : List ℕ → ℕ → ℕ → Control2 → List ℕ
+abbrev pub checkBlock : List ℕ → ℕ → ℕ → Control2 → List ℕ
 checkBlock covered entities back c2 = sealed (covered ++ (drop 16 (bytes1 (checkControl entities back)) ++ bytes2 c2))
 
 -- ---- judging
@@ -74,3 +82,13 @@ soundKind kind agrees = eqb kind 5 || ((eqb kind 1 || eqb kind 4) && agrees)
 
 unfoldable pub sound : List ℕ → Bool
 sound b = crcAgrees b && soundKind (control1At b .kind) (edcAgrees b)
+
+-- ---- answers
+
+-- a block buffer of another length is refused with 1
+abbrev pub lengthAnswer : {A : Type 0} → List ℕ → A → Answer A
+lengthAnswer b x = cond (eqb (length b) blockLen) (Ok x) (Err (1, length b ∷ []))
+
+-- what the buffer b holds after a call that makes x of it
+abbrev pub madeOf : List ℕ → List ℕ → List ℕ
+madeOf b x = cond (eqb (length b) blockLen) x b

@@ -4,7 +4,9 @@ mod edc;
 mod entry;
 mod header;
 mod laws;
+mod layout;
 mod number;
+mod seal;
 
 pub use control::Control1;
 pub use control::Control2;
@@ -21,3 +23,8 @@ pub use header::check_control;
 pub use header::end_control;
 pub use header::end_place;
 pub use laws::layouts_stand;
+pub use layout::BLOCK_LEN;
+pub use layout::FIELD_LEN;
+pub use seal::make_check;
+pub use seal::make_data;
+pub use seal::make_end;
