@@ -4,3 +4,4 @@ pub mod ControlRead
 pub mod EntryLaws
 pub mod EdcLaws
 pub mod Sealing
+pub mod SoundLaws

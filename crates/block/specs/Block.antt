@@ -43,10 +43,10 @@ dataField b = take fieldLen b
 unfoldable pub zeros : ℕ → List ℕ
 zeros n = replicate n 0
 
-unfoldable pub control1At : List ℕ → Control1
+abbrev pub control1At : List ℕ → Control1
 control1At b = control1Of (take 20 (drop 8212 b))
 
-unfoldable pub control2At : List ℕ → Control2
+abbrev pub control2At : List ℕ → Control2
 control2At b = control2Of (take 16 (drop 8232 b))
 
 -- ---- making
@@ -75,7 +75,7 @@ abbrev pub crcAgrees : List ℕ → Bool
 crcAgrees b = eqb (crc (take 8248 b)) (value (take 8 (drop 8248 b)))
 
 abbrev pub edcAgrees : List ℕ → Bool
-edcAgrees b = eqb (edc (dataField b)) (getD b 8208 0 + 256 * getD b 8209 0)
+edcAgrees b = eqb (edc (dataField b)) (getD b 8208 0 + getD b 8209 0 * 256)
 
 abbrev pub soundKind : ℕ → Bool → Bool
 soundKind kind agrees = eqb kind 5 || ((eqb kind 1 || eqb kind 4) && agrees)

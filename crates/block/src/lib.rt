@@ -7,6 +7,7 @@ mod laws;
 mod layout;
 mod number;
 mod seal;
+mod sound;
 
 pub use control::Control1;
 pub use control::Control2;
@@ -28,3 +29,6 @@ pub use layout::FIELD_LEN;
 pub use seal::make_check;
 pub use seal::make_data;
 pub use seal::make_end;
+pub use sound::is_sound;
+pub use sound::read_control1;
+pub use sound::read_control2;
