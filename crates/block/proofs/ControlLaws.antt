@@ -6,7 +6,7 @@ use Prim.Native.Nat.{ℕ, zero, suc, _*_, _/_, _%_, _^_, _<_}
 use native.Mathlib.Nat.{mod-lt, le-of-suc-le-suc, not-suc-le-zero}
 use lib.ListN.{length, getD, take, drop}
 use lib.Dec.{eqb, lit<}
-use Rattle.fields.specs.Bits.{bit, decode, encode, value, split}
+use Rattle.fields.specs.Bits.{bit, decode, encode, value, split, join, AllBytes}
 use Rattle.block.specs.Control.{
   widths1,
   fields1,
@@ -25,7 +25,7 @@ use Rattle.block.specs.Control.{
 }
 use Rattle.block.specs.declared.control.Control1.{Control1}
 use Rattle.block.specs.declared.control.Control2.{Control2}
-use Rattle.fields.proofs.BitLaws.{decode-encode, encode-decode}
+use Rattle.fields.proofs.BitLaws.{decode-encode, encode-decode, bytes-all}
 
 pub flag-bit : (b : Bool) → eqb (bit b) 1 ≡ b
 flag-bit true = refl
@@ -116,3 +116,15 @@ bytes1-end c = refl
 pub length-bytes1-end : (c : Control1) → length (drop 16 (bytes1 c)) ≡ 4
 unfolding bytes1
 length-bytes1-end c = refl
+
+pub bytes1-proper : (c : Control1) → AllBytes (bytes1 c)
+unfolding bytes1
+bytes1-proper c = bytes-all 20 (join widths1 (fields1 c))
+
+pub bytes2-proper : (c : Control2) → AllBytes (bytes2 c)
+unfolding bytes2
+bytes2-proper c = bytes-all 16 (join widths2 (fields2 c))
+
+pub bytes2-whole : (c : Control2) → take 16 (bytes2 c) ≡ bytes2 c
+unfolding bytes2
+bytes2-whole c = refl

@@ -5,3 +5,7 @@ pub mod EntryLaws
 pub mod EdcLaws
 pub mod Sealing
 pub mod SoundLaws
+pub mod EdcBounds
+pub mod Sealed
+pub mod MadeField
+pub mod MadeCheck

@@ -3,3 +3,4 @@ pub mod Entry
 pub mod Edc
 pub mod Made
 pub mod Block
+pub mod Laws

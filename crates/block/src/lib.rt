@@ -23,6 +23,7 @@ pub use header::END_BLOCK;
 pub use header::check_control;
 pub use header::end_control;
 pub use header::end_place;
+pub use laws::blocks_stand;
 pub use laws::layouts_stand;
 pub use layout::BLOCK_LEN;
 pub use layout::FIELD_LEN;

@@ -2,13 +2,13 @@
 use mathlib.Core.Path.{_≡_, refl, sym, ap, ap₂, _∙_, subst}
 use mathlib.Core.List.{List, [], _∷_, _++_}
 use Prim.Native.Nat.{ℕ, zero, suc, _+_, _*_, _/_, _%_, _^_, _<_}
-use native.Mathlib.Nat.{mod-lt, mod-eq-of-lt, mod-one, add-zero, mul-assoc, add-comm, add-assoc, add-mul-div-right, add-mul-mod-self-right}
+use native.Mathlib.Nat.{mod-lt, mod-eq-of-lt, mod-mod, mod-one, add-zero, mul-assoc, add-comm, add-assoc, add-mul-div-right, add-mul-mod-self-right}
 use native.Mathlib.Omega.{arith}
 use lib.ListN.{length, replicate, length-replicate}
 use lib.Pow.{pow-add, pow-pos, high, low, mod-pow-add}
 use lib.Arith.{digits-lt, lt-one}
 use lib.Dec.{lit<}
-use Rattle.fields.specs.Bits.{sum, join, split, bytes, value, encode, decode, Within, AllBytes, Decode-encode, Encode-decode}
+use Rattle.fields.specs.Bits.{sum, join, split, bytes, value, encode, decode, Within, AllBytes, narrow, Decode-narrows, Decode-encode, Encode-decode}
 
 pub join-lt : (ws vs : List ℕ) → join ws vs < 2 ^ sum ws
 join-lt [] vs = lit< tt
@@ -29,15 +29,29 @@ split-low (w ∷ ws) a x =
     ∙ add-mul-mod-self-right (x / 2 ^ sum ws) a (2 ^ w))
     (ap (split ws) up ∙ split-low ws (a * 2 ^ w) x)
 
-pub split-join : (ws vs : List ℕ) → Within ws vs → split ws (join ws vs) ≡ vs
-split-join [] [] h = refl
-split-join [] (v ∷ vs) h = absurd h
-split-join (w ∷ ws) [] h = absurd h
-split-join (w ∷ ws) (v ∷ vs) h =
-    let e : v % 2 ^ w ≡ v = mod-eq-of-lt (h .0) in
+pub split-join : (ws vs : List ℕ) → length ws ≡ length vs → split ws (join ws vs) ≡ narrow ws vs
+split-join [] vs e = refl
+split-join (w ∷ ws) [] e = absurd (let z : suc (length ws) ≡ 0 = e in omega arith)
+split-join (w ∷ ws) (v ∷ vs) e =
+    let v′ : ℕ = v % 2 ^ w in
     ap₂ _∷_
-    (ap (λ (m : ℕ). m % 2 ^ w) (high (v % 2 ^ w) (sum ws) (join-lt ws vs)) ∙ ap (λ (m : ℕ). m % 2 ^ w) e ∙ e)
-    (ap (split ws) (add-comm (v % 2 ^ w * 2 ^ sum ws) (join ws vs)) ∙ split-low ws (v % 2 ^ w) (join ws vs) ∙ split-join ws vs (h .1))
+    (ap (λ (m : ℕ). m % 2 ^ w) (high v′ (sum ws) (join-lt ws vs)) ∙ mod-mod v (2 ^ w))
+    (ap (split ws) (add-comm (v′ * 2 ^ sum ws) (join ws vs)) ∙ split-low ws v′ (join ws vs) ∙ split-join ws vs (omega arith))
+
+pub within-length : (ws vs : List ℕ) → Within ws vs → length ws ≡ length vs
+within-length [] [] h = refl
+within-length [] (v ∷ vs) h = absurd h
+within-length (w ∷ ws) [] h = absurd h
+within-length (w ∷ ws) (v ∷ vs) h = ap suc (within-length ws vs (h .1))
+
+pub narrow-within : (ws vs : List ℕ) → Within ws vs → narrow ws vs ≡ vs
+narrow-within [] [] h = refl
+narrow-within [] (v ∷ vs) h = absurd h
+narrow-within (w ∷ ws) [] h = absurd h
+narrow-within (w ∷ ws) (v ∷ vs) h = ap₂ _∷_ (mod-eq-of-lt (h .0)) (narrow-within ws vs (h .1))
+
+pub split-within : (ws vs : List ℕ) → Within ws vs → split ws (join ws vs) ≡ vs
+split-within ws vs h = split-join ws vs (within-length ws vs h) ∙ narrow-within ws vs h
 
 pub join-split : (ws : List ℕ) (x : ℕ) → join ws (split ws x) ≡ x % 2 ^ sum ws
 join-split [] x = sym (mod-one x)
@@ -66,7 +80,7 @@ bytes-within [] h = tt
 bytes-within (b ∷ bs) h = (h .0, bytes-within bs (h .1))
 
 pub bytes-value : (bs : List ℕ) → AllBytes bs → bytes (length bs) (value bs) ≡ bs
-bytes-value bs h = split-join (replicate (length bs) 8) bs (bytes-within bs h)
+bytes-value bs h = split-within (replicate (length bs) 8) bs (bytes-within bs h)
 
 pub bytes-all : (n x : ℕ) → AllBytes (bytes n x)
 bytes-all zero x = tt
@@ -75,12 +89,15 @@ bytes-all (suc n) x = (mod-lt (x / 2 ^ sum (replicate n 8)) (lit< tt), bytes-all
 eighth : (s n : ℕ) → s ≡ 8 * n → s / 8 ≡ n
 eighth s n e = omega arith
 
-pub decode-encode : Decode-encode
-decode-encode ws vs n e h =
+pub decode-narrows : Decode-narrows
+decode-narrows ws vs n e l =
     ap (λ (m : ℕ). split ws (value (bytes m (join ws vs)))) (eighth (sum ws) n e)
     ∙ ap (split ws) (value-bytes n (join ws vs)
     ∙ mod-eq-of-lt (subst (λ (k : ℕ). join ws vs < 2 ^ k) e (join-lt ws vs)))
-    ∙ split-join ws vs h
+    ∙ split-join ws vs l
+
+pub decode-encode : Decode-encode
+decode-encode ws vs n e h = decode-narrows ws vs n e (within-length ws vs h) ∙ narrow-within ws vs h
 
 pub value-lt : (bs : List ℕ) → value bs < 2 ^ (8 * length bs)
 value-lt bs = subst (λ (k : ℕ). value bs < 2 ^ k) (sum-eights (length bs)) (join-lt (replicate (length bs) 8) bs)

@@ -9,6 +9,7 @@
 --   decode ws bs       the fields in the bytes bs
 --   sized n bs x       x, if bs are n bytes
 --   Within ws vs       there are as many values as widths, and each fits its width
+--   narrow ws vs       the low bits of each value that its width keeps
 --   AllBytes bs           each of bs is below 256
 use mathlib.Core.Path.{_≡_}
 use mathlib.Core.List.{List, [], _∷_}
@@ -59,9 +60,20 @@ Within [] (v ∷ vs) = ⊥
 Within (w ∷ ws) [] = ⊥
 Within (w ∷ ws) (v ∷ vs) = (v < 2 ^ w) × Within ws vs
 
+-- the values as fields of these widths keep them
+abbrev pub narrow : List ℕ → List ℕ → List ℕ
+narrow [] vs = []
+narrow (w ∷ ws) [] = []
+narrow (w ∷ ws) (v ∷ vs) = v % 2 ^ w ∷ narrow ws vs
+
 abbrev pub AllBytes : List ℕ → Type 0
 AllBytes [] = Unit {0}
 AllBytes (b ∷ bs) = (b < 256) × AllBytes bs
+
+-- Decoding gives back what encoding keeps of the values, whatever the widths of a whole number of bytes.
+abbrev pub Decode-narrows : Type 0
+Decode-narrows =
+    (ws vs : List ℕ) (n : ℕ) → sum ws ≡ 8 * n → length ws ≡ length vs → decode ws (encode ws vs) ≡ narrow ws vs
 
 -- Decoding undoes encoding, and encoding undoes decoding, whatever the widths of a whole number of bytes.
 abbrev pub Decode-encode : Type 0
