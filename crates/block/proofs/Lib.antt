@@ -9,3 +9,5 @@ pub mod EdcBounds
 pub mod Sealed
 pub mod MadeField
 pub mod MadeCheck
+pub mod MapSteps
+pub mod MapRule

@@ -4,3 +4,5 @@ pub mod Edc
 pub mod Made
 pub mod Block
 pub mod Laws
+pub mod Map
+pub mod Page

@@ -1,6 +1,7 @@
 // A MAP entry: what one page of a block is.
 ghost use mathlib.Core.Path.{_≡_};
 ghost use mathlib.Core.List.{[], _∷_};
+ghost use lib.ListN.{length};
 ghost use Rattle.fields.specs.Bits.{join, bit, sized};
 ghost use Rattle.block.specs.Entry.{entryBytes, entryOf};
 
@@ -46,11 +47,20 @@ impl Entry {
     pub fn from_bytes(bytes: &[u8]) -> Option<Entry>
         ensures { λ r. ⌜ r ≡ sized 8 (now (bytes .entry)) (entryOf (now (bytes .entry))) ⌝ }
     {
-        let [f0, f1, c0, c1, t0, t1, t2, t3] = bytes else {
+        if bytes.len() != 8 {
             return None;
-        };
+        }
+        Some(Entry::read(bytes))
+    }
+
+    // The entry in eight bytes: two of type and flags, two of Page Byte Count, four of Record Byte Count.
+    pub(crate) fn read(bytes: &[u8]) -> Entry
+        requires { ⌜ length (now bytes) ≡ 8 ⌝ }
+        ensures { λ r. ⌜ r ≡ entryOf (now (bytes .entry)) ⌝ }
+    {
+        let [f0, f1, c0, c1, t0, t1, t2, t3] = bytes else { unreachable() };
         let flags = u16::from_be_bytes([*f0, *f1]);
-        Some(Entry {
+        Entry {
             kind: (flags / 8192) as u8,
             next: flags / 4096 % 2 == 1,
             prev: flags / 2048 % 2 == 1,
@@ -59,7 +69,7 @@ impl Entry {
             reserved: flags % 512,
             count: u16::from_be_bytes([*c0, *c1]),
             total: u32::from_be_bytes([*t0, *t1, *t2, *t3]),
-        })
+        }
     }
 
     // Page Type, the four flags and the reserved bits.

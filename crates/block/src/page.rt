@@ -1,0 +1,57 @@
+// The page call: one page of a block, as a part of that block.
+ghost use mathlib.Core.Path.{_≡_};
+ghost use Prim.Native.Nat.{_+_, _<_, _≤_};
+ghost use lib.ListN.{length};
+ghost use Rattle.block.specs.Map.{pageStart, entryAt};
+ghost use Rattle.block.specs.Page.{view, viewed, pageOf, pageAnswer};
+use crate::entry::DATA;
+use crate::entry::Entry;
+use crate::entry::TAPE_MARK;
+use crate::layout::FIELD_LEN;
+use crate::layout::check_length;
+use crate::map::entry_in;
+use crate::map::map_size;
+use crate::map::start_of;
+use refusal::Refusal;
+
+// A page of a block; its place is the byte of the block where it starts, from 0.
+#[derive(Clone, Copy)]
+pub enum Page<'a> {
+    // Bytes of a record.
+    Data { bytes: &'a [u8], place: usize },
+    // Bytes that only fill the block up.
+    Filler { place: usize, count: usize },
+    // A tape mark.
+    TapeMark { place: usize, count: usize },
+}
+
+// Page `number` of a block, from 1.
+pub fn page_at(block: &[u8], number: usize) -> Result<Page<'_>, Refusal>
+    ensures { λ r. ⌜ viewed r ≡ pageAnswer (now (block .entry)) number ⌝ }
+{
+    check_length(block)?;
+    let field = &block[0..FIELD_LEN];
+    let Some(pages) = map_size(field) else {
+        return Err(Refusal::Unlawful { envelope: 0, entity: 0, block: 0 });
+    };
+    if number == 0 || number > pages {
+        return Err(Refusal::NoSuchNumber(number));
+    }
+    let place = start_of(field, number - 1);
+    Ok(cut(field, entry_in(field, number - 1), place))
+}
+
+// The page of this entry at this place.
+fn cut(field: &[u8], e: Entry, place: usize) -> Page<'_>
+    requires { ⌜ place + e .count ≤ length (now field) ⌝ }
+    ensures { λ r. ⌜ view r ≡ pageOf (now (field .entry)) e place ⌝ }
+{
+    let count = usize::from(e.count);
+    if e.kind == DATA {
+        Page::Data { bytes: &field[place..place + count], place }
+    } else if e.kind == TAPE_MARK {
+        Page::TapeMark { place, count }
+    } else {
+        Page::Filler { place, count }
+    }
+}
