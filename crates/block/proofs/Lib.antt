@@ -11,3 +11,4 @@ pub mod MadeField
 pub mod MadeCheck
 pub mod MapSteps
 pub mod MapRule
+pub mod PageLaws

@@ -17,12 +17,12 @@ follow Last i more = Some (i + 1)
 follow (Next free) i more = more free
 
 pub map-follows : (left free i : ℕ) (field : List ℕ)
-  → mapFrom (suc left) free i field ≡ follow (mapStep free (eqb i 0) (entryAt field i)) i (λ f. mapFrom left f (i + 1) field)
+    → mapFrom (suc left) free i field ≡ follow (mapStep free (eqb i 0) (entryAt field i)) i (λ f. mapFrom left f (i + 1) field)
 unfolding mapFrom
 map-follows left free i field = go (mapStep free (eqb i 0) (entryAt field i))
   where
     go : (s : Step) → elim s [ Unlawful ↦ None | Last ↦ Some (i + 1) | Next rest ↦ mapFrom left rest (i + 1) field ]
-      ≡ follow s i (λ f. mapFrom left f (i + 1) field)
+        ≡ follow s i (λ f. mapFrom left f (i + 1) field)
     go Unlawful = refl
     go Last = refl
     go (Next rest) = refl

@@ -29,22 +29,22 @@ isData e = eqb (e .kind) 2
 abbrev pub lawfulEntry : Bool → Entry → Bool
 lawfulEntry first e =
     leb 1 (e .kind) && (leb (e .kind) 3 && (not (e .compressed) && (eqb (e .reserved) 0 && (leb 1 (e .count)
-      && ((not (e .prev) || (first && isData e))
-      && ((not (e .next) || (e .last && isData e))
-      && cond (isData e) (leb 1 (e .total) && leb (e .total) 1048576) (e .last && eqb (e .total) 0)))))))
+    && ((not (e .prev) || (first && isData e))
+    && ((not (e .next) || (e .last && isData e))
+    && cond (isData e) (leb 1 (e .total) && leb (e .total) 1048576) (e .last && eqb (e .total) 0)))))))
 
 abbrev pub mapStep : ℕ → Bool → Entry → Step
 mapStep free first e =
     cond (lawfulEntry first e && leb (e .count + 8) free)
-      (cond (e .last) (cond (leb (free - (e .count + 8)) 16) Last Unlawful) (Next (free - (e .count + 8))))
-      Unlawful
+    (cond (e .last) (cond (leb (free - (e .count + 8)) 16) Last Unlawful) (Next (free - (e .count + 8))))
+    Unlawful
 
 -- entries from the i-th on, with `free` bytes free; a block has room for 1,026 at most
 unfoldable pub mapFrom : ℕ → ℕ → ℕ → List ℕ → Option ℕ
 mapFrom zero free i field = None
 mapFrom (suc left) free i field =
     elim (mapStep free (eqb i 0) (entryAt field i))
-      [ Unlawful ↦ None | Last ↦ Some (i + 1) | Next rest ↦ mapFrom left rest (i + 1) field ]
+    [ Unlawful ↦ None | Last ↦ Some (i + 1) | Next rest ↦ mapFrom left rest (i + 1) field ]
 
 unfoldable pub mapSize : List ℕ → Option ℕ
 mapSize field = mapFrom 1026 8208 0 field

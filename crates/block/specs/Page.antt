@@ -38,7 +38,7 @@ viewed (Err e) = Err (tells e)
 abbrev pub pageOf : List ℕ → Entry → ℕ → View
 pageOf field e place =
     cond (isData e) (dataAt (take (e .count) (drop place field)) place)
-      (cond (eqb (e .kind) 3) (markAt place (e .count)) (fillerAt place (e .count)))
+    (cond (eqb (e .kind) 3) (markAt place (e .count)) (fillerAt place (e .count)))
 
 abbrev pub pageIs : List ℕ → ℕ → View
 pageIs field k = pageOf field (entryAt field k) (pageStart field k)

@@ -58,7 +58,9 @@ impl Entry {
         requires { ⌜ length (now bytes) ≡ 8 ⌝ }
         ensures { λ r. ⌜ r ≡ entryOf (now (bytes .entry)) ⌝ }
     {
-        let [f0, f1, c0, c1, t0, t1, t2, t3] = bytes else { unreachable() };
+        let [f0, f1, c0, c1, t0, t1, t2, t3] = bytes else {
+            unreachable()
+        };
         let flags = u16::from_be_bytes([*f0, *f1]);
         Entry {
             kind: (flags / 8192) as u8,

@@ -95,5 +95,9 @@ fn is_lawful(first: bool, e: Entry) -> bool
         && 1 <= e.count
         && (!e.prev || (first && data))
         && (!e.next || (e.last && data))
-        && if data { 1 <= e.total && e.total <= MAX_RECORD } else { e.last && e.total == 0 }
+        && if data {
+            1 <= e.total && e.total <= MAX_RECORD
+        } else {
+            e.last && e.total == 0
+        }
 }

@@ -1,9 +1,10 @@
 // The page call: one page of a block, as a part of that block.
 ghost use mathlib.Core.Path.{_≡_};
-ghost use Prim.Native.Nat.{_+_, _<_, _≤_};
+ghost use Prim.Native.Nat.{_+_, _≤_};
+ghost use Rattle.std.specs.declared.option.Option.the-variants.{Some};
 ghost use lib.ListN.{length};
-ghost use Rattle.block.specs.Map.{pageStart, entryAt};
-ghost use Rattle.block.specs.Page.{view, viewed, pageOf, pageAnswer};
+ghost use Rattle.block.specs.Map.{mapSize};
+ghost use Rattle.block.specs.Page.{view, viewed, pageOf, pageAmong, pageAnswer};
 use crate::entry::DATA;
 use crate::entry::Entry;
 use crate::entry::TAPE_MARK;
@@ -30,10 +31,30 @@ pub fn page_at(block: &[u8], number: usize) -> Result<Page<'_>, Refusal>
     ensures { λ r. ⌜ viewed r ≡ pageAnswer (now (block .entry)) number ⌝ }
 {
     check_length(block)?;
-    let field = &block[0..FIELD_LEN];
-    let Some(pages) = map_size(field) else {
-        return Err(Refusal::Unlawful { envelope: 0, entity: 0, block: 0 });
-    };
+    page_in(&block[0..FIELD_LEN], number)
+}
+
+// The same of a Data Field.
+fn page_in(field: &[u8], number: usize) -> Result<Page<'_>, Refusal>
+    requires { ⌜ length (now field) ≡ 8208 ⌝ }
+    ensures { λ r. ⌜ viewed r ≡ pageAmong (now (field .entry)) (mapSize (now (field .entry))) number ⌝ }
+{
+    match map_size(field) {
+        None => Err(Refusal::Unlawful {
+            envelope: 0,
+            entity: 0,
+            block: 0,
+        }),
+        Some(pages) => page_of(field, pages, number),
+    }
+}
+
+// The same of a Data Field whose lawful map has so many entries.
+fn page_of(field: &[u8], pages: usize, number: usize) -> Result<Page<'_>, Refusal>
+    requires size { ⌜ length (now field) ≡ 8208 ⌝ }
+    requires map { ⌜ mapSize (now field) ≡ Some pages ⌝ }
+    ensures { λ r. ⌜ viewed r ≡ pageAmong (now (field .entry)) (Some pages) number ⌝ }
+{
     if number == 0 || number > pages {
         return Err(Refusal::NoSuchNumber(number));
     }
@@ -48,7 +69,10 @@ fn cut(field: &[u8], e: Entry, place: usize) -> Page<'_>
 {
     let count = usize::from(e.count);
     if e.kind == DATA {
-        Page::Data { bytes: &field[place..place + count], place }
+        Page::Data {
+            bytes: &field[place..place + count],
+            place,
+        }
     } else if e.kind == TAPE_MARK {
         Page::TapeMark { place, count }
     } else {

@@ -14,20 +14,20 @@ loop-i-holds c = refl
 pub returns-in-Unlawful : need.returns-in-Unlawful
 returns-in-Unlawful c =
     map-unlawful (c .args .field .now) (c .loop-i .free) (c .loop-i .i) (c .judge-entry .result) (omega arith)
-      (c .judge-entry .ensures ∙ ap (λ (e : Entry). mapStep (c .loop-i .free) (eqb (c .loop-i .i) 0) e) (c .entry-in .ensures))
-      (c .loop-i .inv) (c .in-Unlawful .is)
+    (c .judge-entry .ensures ∙ ap (λ (e : Entry). mapStep (c .loop-i .free) (eqb (c .loop-i .i) 0) e) (c .entry-in .ensures))
+    (c .loop-i .inv) (c .in-Unlawful .is)
 
 pub returns-in-Last : need.returns-in-Last
 returns-in-Last c =
     map-last (c .args .field .now) (c .loop-i .free) (c .loop-i .i) (c .judge-entry .result) (omega arith)
-      (c .judge-entry .ensures ∙ ap (λ (e : Entry). mapStep (c .loop-i .free) (eqb (c .loop-i .i) 0) e) (c .entry-in .ensures))
-      (c .loop-i .inv) (c .in-Last .is)
+    (c .judge-entry .ensures ∙ ap (λ (e : Entry). mapStep (c .loop-i .free) (eqb (c .loop-i .i) 0) e) (c .entry-in .ensures))
+    (c .loop-i .inv) (c .in-Last .is)
 
 pub loop-i-again : need.loop-i-again
 loop-i-again c =
     map-next (c .args .field .now) (c .loop-i .free) (c .loop-i .i) (c .judge-entry .result) (omega arith)
-      (c .judge-entry .ensures ∙ ap (λ (e : Entry). mapStep (c .loop-i .free) (eqb (c .loop-i .i) 0) e) (c .entry-in .ensures))
-      (c .loop-i .inv) (c .in-Next .rest) (c .in-Next .is)
+    (c .judge-entry .ensures ∙ ap (λ (e : Entry). mapStep (c .loop-i .free) (eqb (c .loop-i .i) 0) e) (c .entry-in .ensures))
+    (c .loop-i .inv) (c .in-Next .rest) (c .in-Next .is)
 
 pub returns : need.returns
 returns c = map-spent (c .args .field .now) (c .loop-i .free) (c .loop-i .i) (omega arith) (c .loop-i .inv)

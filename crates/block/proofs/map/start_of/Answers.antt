@@ -14,7 +14,8 @@ unfolding pageStart
 loop-i-holds c = (refl, lit≤ tt)
 
 pub loop-i-again : need.loop-i-again
-loop-i-again c =
-    ( ap₂ _+_ (c .loop-i .inv .0) (c .from-start .ensures ∙ ap (λ (e : Entry). e .count) (c .entry-in .ensures))
-      ∙ sym (start-more (c .args .field .now) (c .loop-i .i))
-    , search needs )
+loop-i-again c = (
+  ap₂ _+_ (c .loop-i .inv .0) (c .from-start .ensures ∙ ap (λ (e : Entry). e .count) (c .entry-in .ensures))
+      ∙ sym (start-more (c .args .field .now) (c .loop-i .i)),
+  search needs,
+)

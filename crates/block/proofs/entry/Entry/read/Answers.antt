@@ -13,7 +13,7 @@ returns c =
     let bs = c .args .bytes .now in
     let small : (q : ℕ) → getD (c .args .bytes .now) q 0 < 256 = λ q. search needs in
     sym (entry-is bs (c .pre) (c .from-be-bytes-flags .result) (c .from-be-bytes .result) (c .from-be-bytes-2 .result)
-      (c .from-be-bytes-flags .ensures ∙ sym (value-two bs 0 small (omega arith)))
-      (c .from-be-bytes .ensures ∙ sym (value-two bs 2 small (omega arith)))
-      (c .from-be-bytes-2 .ensures ∙ sym (value-four bs 4 small (omega arith)))
-      (c .from-be-bytes-flags .ok))
+    (c .from-be-bytes-flags .ensures ∙ sym (value-two bs 0 small (omega arith)))
+    (c .from-be-bytes .ensures ∙ sym (value-two bs 2 small (omega arith)))
+    (c .from-be-bytes-2 .ensures ∙ sym (value-four bs 4 small (omega arith)))
+    (c .from-be-bytes-flags .ok))
