@@ -2,7 +2,17 @@
 -- Assumes nothing.
 use mathlib.Core.Path.{_≡_, refl, sym, ap, ap₂, _∙_, subst}
 use Prim.Native.Nat.{ℕ, zero, suc, _+_, _*_, _/_, _%_, _^_, _<_, _≤_}
-use native.Mathlib.Nat.{add-zero, mod-lt, mod-eq-of-lt, le-of-suc-le-suc, not-suc-le-zero, mul-assoc, mul-one, pow-succ', le-mul-of-pos-right}
+use native.Mathlib.Nat.{
+  add-zero,
+  mod-lt,
+  mod-eq-of-lt,
+  le-of-suc-le-suc,
+  not-suc-le-zero,
+  mul-assoc,
+  mul-one,
+  pow-succ',
+  le-mul-of-pos-right,
+}
 use native.Mathlib.Omega.{arith}
 use lib.Bits.{
   bitXor,

@@ -70,7 +70,8 @@ zero-mul-add : (p v : ℕ) → 0 * p + v ≡ v
 zero-mul-add p v = ap (λ x. x + v) (zero-mul p) ∙ zero-add v
 
 pub bigEndian-value : (bs : List ℕ) → AreBytes bs → bigEndian (length bs) (value bs) ≡ bs
-bigEndian-value bs a = ap (bigEndian (length bs)) (sym (zero-mul-add (256 ^ length bs) (value bs))) ∙ bigEndian-below 0 bs a
+bigEndian-value bs a =
+    ap (bigEndian (length bs)) (sym (zero-mul-add (256 ^ length bs) (value bs))) ∙ bigEndian-below 0 bs a
 
 pow-bytes : (n : ℕ) → 256 ^ n ≡ 2 ^ (8 * n)
 pow-bytes zero = refl
