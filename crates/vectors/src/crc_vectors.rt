@@ -10,8 +10,6 @@ use std::io;
 // The parameters stand in each name: ECMA-182's polynomial, not reflected, from zero, not inverted.
 const CRC64_ECMA182_UNREFLECTED_OF_123456789: u64 = 0x6C40DF5F0B497347;
 
-const CRC64_ECMA182_UNREFLECTED_OF_NOTHING: u64 = 0;
-
 const CRC64_ECMA182_UNREFLECTED_OF_01: u64 = 0x42F0E1EBA9EA3693;
 
 const CRC64_ECMA182_UNREFLECTED_OF_80: u64 = 0xF6FAE5C07D3274CD;
@@ -44,33 +42,37 @@ const BLOCK_LEN: usize = 8256;
 
 const LENGTHS: usize = 41;
 
-// Messages that can be written down.
-fn short(rt: &LibcRuntime, tally: &mut Tally) -> io::Result<()> {
+// The check value that catalogues give for this CRC, and what follows from it.
+fn published(rt: &LibcRuntime, tally: &mut Tally) -> io::Result<()> {
     let digits = crc64(b"123456789");
+    let closed = crc64(b"123456789\x6C\x40\xDF\x5F\x0B\x49\x73\x47");
     tally.compare(
         rt,
-        "123456789",
+        "CRC-64 of 123456789",
         digits,
         CRC64_ECMA182_UNREFLECTED_OF_123456789,
     )?;
+    tally.compare(rt, "CRC-64 of 123456789 and its CRC", closed, 0)
+}
+
+fn single_bytes(rt: &LibcRuntime, tally: &mut Tally) -> io::Result<()> {
+    let [low, high, all] = [crc64(b"\x01"), crc64(b"\x80"), crc64(b"\xFF")];
+    tally.compare(rt, "CRC-64 of 01", low, CRC64_ECMA182_UNREFLECTED_OF_01)?;
+    tally.compare(rt, "CRC-64 of 80", high, CRC64_ECMA182_UNREFLECTED_OF_80)?;
+    tally.compare(rt, "CRC-64 of FF", all, CRC64_ECMA182_UNREFLECTED_OF_FF)
+}
+
+// Runs of one byte: zeros leave the register at zero.
+fn runs(rt: &LibcRuntime, tally: &mut Tally) -> io::Result<()> {
+    let ones = crc64(&[0xFF; 32]);
+    tally.compare(rt, "CRC-64 of nothing", crc64(b""), 0)?;
+    tally.compare(rt, "CRC-64 of 8,256 zeros", crc64(&[0; BLOCK_LEN]), 0)?;
     tally.compare(
         rt,
-        "nothing",
-        crc64(b""),
-        CRC64_ECMA182_UNREFLECTED_OF_NOTHING,
-    )?;
-    tally.compare(rt, "01", crc64(b"\x01"), CRC64_ECMA182_UNREFLECTED_OF_01)?;
-    tally.compare(rt, "80", crc64(b"\x80"), CRC64_ECMA182_UNREFLECTED_OF_80)?;
-    tally.compare(rt, "FF", crc64(b"\xFF"), CRC64_ECMA182_UNREFLECTED_OF_FF)?;
-    tally.compare(
-        rt,
-        "32 of FF",
-        crc64(&[0xFF; 32]),
+        "CRC-64 of 32 times FF",
+        ones,
         CRC64_ECMA182_UNREFLECTED_OF_32_FF,
-    )?;
-    let closed = b"123456789\x6C\x40\xDF\x5F\x0B\x49\x73\x47";
-    tally.compare(rt, "123456789 and its CRC", crc64(closed), 0)?;
-    tally.compare(rt, "8,256 zeros", crc64(&[0; BLOCK_LEN]), 0)
+    )
 }
 
 // Every number of bytes up to forty: whole eights, and each rest.
@@ -78,13 +80,9 @@ fn lengths(rt: &LibcRuntime, tally: &mut Tally) -> io::Result<()> {
     let mut bytes = [0; LENGTHS];
     fill(&mut bytes, 7);
     for n in 0..LENGTHS {
-        let name = format_args!("{n} bytes of fill 7");
-        tally.compare(
-            rt,
-            name,
-            crc64(&bytes[..n]),
-            CRC64_ECMA182_UNREFLECTED_OF_FILL_7[n],
-        )?;
+        let name = format_args!("CRC-64 of {n} bytes of fill 7");
+        let wanted = CRC64_ECMA182_UNREFLECTED_OF_FILL_7[n];
+        tally.compare(rt, name, crc64(&bytes[..n]), wanted)?;
     }
     Ok(())
 }
@@ -96,19 +94,21 @@ fn body(rt: &LibcRuntime, tally: &mut Tally, bytes: &[u8]) -> io::Result<()>
     let sum = crc64(bytes);
     tally.compare(
         rt,
-        "8,248 bytes of fill 9",
+        "CRC-64 of 8,248 bytes of fill 9",
         sum,
         CRC64_ECMA182_UNREFLECTED_OF_8248_FILL_9,
     )?;
     let (front, back) = bytes.split_at(4099);
     let both = crc64_more(crc64(front), back);
-    tally.compare(rt, "4,099 of them, and then the others", both, sum)?;
+    tally.compare(rt, "CRC-64 of the same in two parts", both, sum)?;
     let closed = crc64_more(sum, &sum.to_be_bytes());
-    tally.compare(rt, "and then their own CRC", closed, 0)
+    tally.compare(rt, "CRC-64 of the same and its CRC", closed, 0)
 }
 
 pub fn run(rt: &LibcRuntime, tally: &mut Tally) -> io::Result<()> {
-    short(rt, tally)?;
+    published(rt, tally)?;
+    single_bytes(rt, tally)?;
+    runs(rt, tally)?;
     lengths(rt, tally)?;
     let mut bytes = [0; BODY_LEN];
     fill(&mut bytes, 9);
