@@ -1,7 +1,7 @@
 -- The laws of the CRC. Assumes nothing.
 use mathlib.Core.Path.{_≡_, refl, sym, ap, _∙_, subst}
-use mathlib.Core.List.{List, [], _∷_, _++_}
-use Prim.Native.Nat.{ℕ, zero, suc, _+_, _*_, _-_, _%_, _^_, _<_, _≤_}
+use mathlib.Core.List.{List, _++_}
+use Prim.Native.Nat.{ℕ, _+_, _*_, _-_, _%_, _^_, _<_, _≤_}
 use native.Mathlib.Nat.{mod-lt, mod-eq-of-lt, eq-of-mul-eq-mul-right, mul-le-mul-right, mul-comm, suc-mul}
 use native.Mathlib.Omega.{arith}
 use lib.Bits.{bitXor, xor-self, xor-assoc}
@@ -11,7 +11,6 @@ use Rattle.std.proofs.shelf.Bits.{pow-add}
 use Rattle.crc.specs.Crc.{crc, crcMore}
 use Rattle.crc.specs.Laws.{
   bigEndian,
-  xorBytes,
   AreBytes,
   Closed-gives-zero,
   Zero-only-if-closed,

@@ -1,5 +1,4 @@
 -- A turn writes one place and leaves those below it. Assumes nothing.
-use mathlib.Core.Path.{_∙_}
 use mathlib.Core.Logic.{_≢_}
 use Prim.Native.Nat.{_<_}
 use native.Mathlib.Omega.{arith}
