@@ -1,7 +1,8 @@
 -- Eight bytes read by their places: as the list they are, as one number, and by the tables. Assumes nothing.
 use mathlib.Core.Path.{_≡_, refl, sym, ap, ap₂, _∙_}
-use mathlib.Core.List.{List, [], _∷_, _++_}
+use mathlib.Core.List.{List, [], _∷_}
 use Prim.Native.Nat.{ℕ, _+_, _*_, _/_, _%_, _^_, _<_, _≤_}
+use native.Mathlib.Nat.{div-one}
 use native.Mathlib.Omega.{arith}
 use lib.Bits.{bitXor}
 use lib.ListN.{length, getD, take, drop}
@@ -35,13 +36,7 @@ taken w =
     ∷ (w / 2 ^ 24 % 256) ∷ (w / 2 ^ 16 % 256) ∷ (w / 2 ^ 8 % 256) ∷ (w % 256) ∷ []
 
 pub taken-is : (w : ℕ) → taken w ≡ bigEndian 8 w
-taken-is w =
-    let low : w % 256 ≡ w / 1 % 256 = omega arith in
-    ap
-    (λ x.
-    (w / 2 ^ 56 % 256) ∷ (w / 2 ^ 48 % 256) ∷ (w / 2 ^ 40 % 256) ∷ (w / 2 ^ 32 % 256)
-    ∷ (w / 2 ^ 24 % 256) ∷ (w / 2 ^ 16 % 256) ∷ (w / 2 ^ 8 % 256) ∷ x ∷ [])
-    low
+taken-is w = simp div-one
 
 -- eight bytes onto a register: the CRC of the bytes of both, exclusive-ored as one number
 pub more-word : (c : ℕ) (xs : List ℕ) → c < 2 ^ 64 → AreBytes xs → length xs ≡ 8

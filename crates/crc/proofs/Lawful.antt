@@ -5,18 +5,19 @@ use Prim.Native.Nat.{ℕ, zero, suc, _+_, _*_, _-_, _%_, _^_, _<_, _≤_}
 use native.Mathlib.Nat.{mod-lt, mod-eq-of-lt, eq-of-mul-eq-mul-right, mul-le-mul-right, mul-comm, suc-mul}
 use native.Mathlib.Omega.{arith}
 use lib.Bits.{bitXor, xor-self, xor-assoc}
-use lib.Dec.{lit<}
-use lib.ListN.{length}
+use lib.Dec.{lit<, lit≤}
+use lib.ListN.{length, getD, set, take, drop}
 use Rattle.std.proofs.shelf.Bits.{pow-add}
+use Rattle.std.proofs.shelf.Lists.{set-getD, set-split}
 use Rattle.crc.specs.Crc.{crc, crcMore}
 use Rattle.crc.specs.Laws.{
   bigEndian,
-  xorBytes,
   AreBytes,
   Closed-gives-zero,
   Zero-only-if-closed,
   Is-linear,
   Shows-a-changed-burst,
+  Shows-a-changed-byte,
 }
 use Rattle.crc.proofs.Linear.{
   zeros,
@@ -105,6 +106,21 @@ shows-a-changed-burst front back xs ys hx hy e short same =
     same-from-register c xs ys hx hy e short
     (same-from-more (crcMore c xs) (crcMore c ys) back (more-lt c xs (crc-lt front)) (more-lt c ys (crc-lt front))
     (sym (split xs) ∙ same ∙ split ys))
+
+one : (x : ℕ) → x < 256 → AreBytes (x ∷ [])
+one x h zero = h
+one x h (suc k) = lit< tt
+
+pub shows-a-changed-byte : Shows-a-changed-byte
+shows-a-changed-byte bs k x h inside hx same =
+    let d : ℕ = getD bs k 0 in
+    let front : List ℕ = take k bs in
+    let back : List ℕ = drop (suc k) bs in
+    let changed : set bs k x ≡ front ++ (x ∷ back) = set-split bs k x inside in
+    let whole : bs ≡ front ++ (d ∷ back) = sym (set-getD bs k 0) ∙ set-split bs k d inside in
+    ap (λ xs. getD xs 0 0)
+    (shows-a-changed-burst front back (x ∷ []) (d ∷ []) (one x hx) (one d (h k)) refl (lit≤ tt)
+    (sym (ap crc changed) ∙ same ∙ ap crc whole))
 
 pub zero-only-if-closed : Zero-only-if-closed
 zero-only-if-closed bs ys hy e none =

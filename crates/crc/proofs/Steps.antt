@@ -1,8 +1,17 @@
 -- One shift of the CRC and one byte: linear over exclusive-or, within 64 bits, and never two registers to one.
 -- Assumes nothing.
-use mathlib.Core.Path.{_≡_, refl, sym, ap, ap₂, _∙_, subst}
-use Prim.Native.Nat.{ℕ, zero, suc, _+_, _*_, _/_, _%_, _^_, _<_, _≤_}
-use native.Mathlib.Nat.{add-zero, mod-lt, mod-eq-of-lt, le-of-suc-le-suc, not-suc-le-zero, mul-assoc, mul-one, pow-succ', le-mul-of-pos-right}
+use mathlib.Core.Path.{_≡_, refl, sym, ap, ap₂, _∙_}
+use Prim.Native.Nat.{ℕ, zero, suc, _+_, _*_, _/_, _%_, _^_, _<_}
+use native.Mathlib.Nat.{
+  add-zero,
+  mod-eq-of-lt,
+  le-of-suc-le-suc,
+  not-suc-le-zero,
+  mul-assoc,
+  mul-one,
+  pow-succ',
+  le-mul-of-pos-right,
+}
 use native.Mathlib.Omega.{arith}
 use lib.Bits.{
   bitXor,

@@ -2,8 +2,8 @@
 --
 --   value bs   the number that the bytes bs write, the high byte first
 use mathlib.Core.Path.{_≡_, refl, sym, ap, ap₂, _∙_, subst}
-use mathlib.Core.List.{List, [], _∷_, _++_}
-use Prim.Native.Nat.{ℕ, zero, suc, _+_, _*_, _/_, _%_, _^_, _<_, _≤_}
+use mathlib.Core.List.{List, [], _∷_}
+use Prim.Native.Nat.{ℕ, zero, suc, _+_, _*_, _/_, _%_, _^_, _<_}
 use native.Mathlib.Nat.{
   add-assoc,
   add-mul,
@@ -23,13 +23,12 @@ use native.Mathlib.Nat.{
 use native.Mathlib.Omega.{arith}
 use lib.Bits.{bitXor, xor-mod, xor-shr}
 use lib.Dec.{lit<}
-use lib.ListN.{length, getD, replicate}
+use lib.ListN.{length}
 use Rattle.std.proofs.shelf.Bits.{pow-add, field-of, mul-add-lt, div-mul-add, mod-mul-add}
-use Rattle.std.proofs.shelf.Lists.{length-replicate}
 use Rattle.crc.specs.Crc.{crc, crcByte, crcMore}
 use Rattle.crc.specs.Laws.{bigEndian, xorBytes, AreBytes}
 use Rattle.crc.proofs.Steps.{byte-top}
-use Rattle.crc.proofs.Linear.{zeros, more-xor, more-apart, crc-cons, xorBytes-self}
+use Rattle.crc.proofs.Linear.{zeros, more-xor, more-apart, crc-cons}
 
 abbrev pub value : List ℕ → ℕ
 value [] = 0
@@ -70,7 +69,8 @@ zero-mul-add : (p v : ℕ) → 0 * p + v ≡ v
 zero-mul-add p v = ap (λ x. x + v) (zero-mul p) ∙ zero-add v
 
 pub bigEndian-value : (bs : List ℕ) → AreBytes bs → bigEndian (length bs) (value bs) ≡ bs
-bigEndian-value bs a = ap (bigEndian (length bs)) (sym (zero-mul-add (256 ^ length bs) (value bs))) ∙ bigEndian-below 0 bs a
+bigEndian-value bs a =
+    ap (bigEndian (length bs)) (sym (zero-mul-add (256 ^ length bs) (value bs))) ∙ bigEndian-below 0 bs a
 
 pow-bytes : (n : ℕ) → 256 ^ n ≡ 2 ^ (8 * n)
 pow-bytes zero = refl

@@ -3,16 +3,18 @@
 --   bigEndian n x    the n lowest bytes of the number x, the high byte first
 --   xorBytes xs ys   the bytes xs and ys exclusive-ored place by place
 --   AreBytes xs      each number of xs is below 256
+--   Goes-on                  the CRC of joined bytes goes on from the CRC of the first
 --   Closed-gives-zero        bytes with their own CRC behind them have the CRC 0
 --   Zero-only-if-closed      and with any other eight bytes behind them they have not
 --   Is-linear                the CRC of an exclusive-or is the exclusive-or of the CRCs
 --   Shows-a-changed-burst    no change within eight neighbouring bytes leaves the CRC as it was
+--   Shows-a-changed-byte     in particular no change of one byte
 use mathlib.Core.Path.{_≡_}
 use mathlib.Core.List.{List, [], _∷_, _++_}
 use Prim.Native.Nat.{ℕ, zero, suc, _/_, _%_, _^_, _<_, _≤_}
 use lib.Bits.{bitXor}
-use lib.ListN.{length, getD}
-use Rattle.crc.specs.Crc.{crc}
+use lib.ListN.{length, getD, set}
+use Rattle.crc.specs.Crc.{crc, crcMore}
 
 abbrev pub bigEndian : ℕ → ℕ → List ℕ
 bigEndian zero x = []
@@ -25,6 +27,9 @@ xorBytes (x ∷ xs) (y ∷ ys) = bitXor x y ∷ xorBytes xs ys
 
 abbrev pub AreBytes : List ℕ → Type 0
 AreBytes xs = (k : ℕ) → getD xs k 0 < 256
+
+abbrev pub Goes-on : Type 0
+Goes-on = (xs ys : List ℕ) → crc (xs ++ ys) ≡ crcMore (crc xs) ys
 
 abbrev pub Closed-gives-zero : Type 0
 Closed-gives-zero = (bs : List ℕ) → crc (bs ++ bigEndian 8 (crc bs)) ≡ 0
@@ -40,3 +45,7 @@ abbrev pub Shows-a-changed-burst : Type 0
 Shows-a-changed-burst =
     (front back xs ys : List ℕ) → AreBytes xs → AreBytes ys → length xs ≡ length ys → length xs ≤ 8
     → crc (front ++ (xs ++ back)) ≡ crc (front ++ (ys ++ back)) → xs ≡ ys
+
+abbrev pub Shows-a-changed-byte : Type 0
+Shows-a-changed-byte =
+    (bs : List ℕ) (k x : ℕ) → AreBytes bs → k < length bs → x < 256 → crc (set bs k x) ≡ crc bs → x ≡ getD bs k 0

@@ -4,7 +4,8 @@ ghost use mathlib.Core.List.{_∷_};
 ghost use Prim.Native.Nat.{_<_};
 ghost use lib.ListN.{replicate};
 ghost use Rattle.crc.specs.Crc.{crc, crcByte, crcMore};
-ghost use Rattle.crc.specs.Laws.{Closed-gives-zero, Zero-only-if-closed, Is-linear, Shows-a-changed-burst};
+ghost use Rattle.crc.specs.Laws.{Goes-on, Closed-gives-zero, Zero-only-if-closed, Is-linear};
+ghost use Rattle.crc.specs.Laws.{Shows-a-changed-burst, Shows-a-changed-byte};
 
 mod tables;
 
@@ -66,8 +67,10 @@ pub fn crc64(bytes: &[u8]) -> u64
 
 // Does nothing: its contract states the laws that make the CRC worth storing.
 pub fn crc64_is_lawful()
+    ensures parts { λ _. ⌜ Goes-on ⌝ }
     ensures closed { λ _. ⌜ Closed-gives-zero ⌝ }
     ensures only { λ _. ⌜ Zero-only-if-closed ⌝ }
     ensures linear { λ _. ⌜ Is-linear ⌝ }
     ensures bursts { λ _. ⌜ Shows-a-changed-burst ⌝ }
+    ensures bytes { λ _. ⌜ Shows-a-changed-byte ⌝ }
 {}

@@ -1,5 +1,5 @@
 -- A byte by its top eight bits: one look into the first table, and the rest moved up. Assumes nothing.
-use mathlib.Core.Path.{_≡_, sym, ap, _∙_}
+use mathlib.Core.Path.{sym, ap, _∙_}
 use Prim.Native.Nat.{_*_, _%_, _^_}
 use native.Mathlib.Omega.{arith}
 use lib.Bits.{bitXor}

@@ -1,9 +1,9 @@
 -- What is left of the bytes is taken in one by one. Assumes nothing.
-use mathlib.Core.Path.{_≡_, sym, ap, _∙_}
-use lib.ListN.{getD, drop}
+use mathlib.Core.Path.{sym, ap, _∙_}
+use lib.ListN.{drop}
 use Prim.Native.Nat.{_+_}
 use Rattle.std.proofs.shelf.Lists.{at-drop-more, at-drop-all}
-use Rattle.crc.specs.Crc.{crcByte, crcMore}
+use Rattle.crc.specs.Crc.{crcMore}
 use Rattle.crc.proofs.after_rest.Needs as need
 
 pub loop-byte-again : need.loop-byte-again

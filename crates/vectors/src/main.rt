@@ -1,0 +1,15 @@
+// Compares what the library answers with published values and with values worked out elsewhere.
+use std::io;
+
+mod crc_vectors;
+mod filling;
+mod tally;
+
+use tally::Tally;
+use tally::TallyDisplay;
+
+fn main(rt: LibcRuntime) -> io::Result<()> {
+    let mut tally = Tally::new();
+    crc_vectors::run(&rt, &mut tally)?;
+    println!(rt, "{tally}")
+}
