@@ -25,16 +25,7 @@ use Rattle.block.specs.Control.{
 }
 use Rattle.block.specs.declared.control.Control1.{Control1}
 use Rattle.block.specs.declared.control.Control2.{Control2}
-use Rattle.fields.proofs.BitLaws.{decode-encode, encode-decode, bytes-all}
-
-pub flag-bit : (b : Bool) → eqb (bit b) 1 ≡ b
-flag-bit true = refl
-flag-bit false = refl
-
-pub bit-flag : (x : ℕ) → x < 2 → bit (eqb x 1) ≡ x
-bit-flag zero h = refl
-bit-flag (suc zero) h = refl
-bit-flag (suc (suc x)) h = absurd (not-suc-le-zero (le-of-suc-le-suc (le-of-suc-le-suc h)))
+use Rattle.fields.proofs.BitLaws.{decode-encode, encode-decode, bytes-all, flag-bit, bit-flag}
 
 control1-fields : (c : Control1) → fromFields1 (fields1 c) ≡ c
 control1-fields c = λ i. record {

@@ -1,7 +1,6 @@
 pub mod ControlLaws
 pub mod ControlBytes
 pub mod ControlRead
-pub mod EntryLaws
 pub mod EdcLaws
 pub mod Sealing
 pub mod SoundLaws
@@ -9,6 +8,3 @@ pub mod EdcBounds
 pub mod Sealed
 pub mod MadeField
 pub mod MadeCheck
-pub mod MapSteps
-pub mod MapRule
-pub mod PageLaws

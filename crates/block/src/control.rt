@@ -11,7 +11,7 @@ use crate::number::three;
 use crate::number::two;
 
 // Control Field 1: what a block is and what it holds.
-#[derive(Clone, Copy, PartialEq, Eq, Drop)]
+#[derive(Clone, Copy, Drop)]
 pub struct Control1 {
     // Reserved, 26 bits.
     pub reserved: u32,
@@ -40,7 +40,7 @@ pub struct Control1 {
 }
 
 // Control Field 2: where a block stands.
-#[derive(Clone, Copy, PartialEq, Eq, Drop)]
+#[derive(Clone, Copy, Drop)]
 pub struct Control2 {
     // Reserved, 5 bits.
     pub reserved: u8,

@@ -31,7 +31,7 @@ const NOTHING: Control1 = Control1 {
 };
 
 // What a data block says in Control Field 1.
-#[derive(Clone, Copy, PartialEq, Eq, Drop)]
+#[derive(Clone, Copy, Drop)]
 pub struct DataHeader {
     // The place of the nearest earlier data block with a tape mark, 0 if there is none.
     pub mark: u32,

@@ -20,7 +20,7 @@ pub(crate) const CONTROL2_AT: usize = 8232;
 pub(crate) const CRC_AT: usize = 8248;
 
 // Refuses a buffer that is not a block long.
-pub(crate) fn check_length(block: &[u8]) -> Result<(), Refusal>
+pub fn check_length(block: &[u8]) -> Result<(), Refusal>
     ensures { λ r. ⌜ told r ≡ lengthAnswer (now (block .entry)) tt ⌝ }
 {
     if block.len() != BLOCK_LEN {

@@ -1,23 +1,16 @@
-// The block of a DLT 5 tape: its control fields, maps and pages, how it is made and sealed, and when it is sound.
+// The block of a DLT 5 tape: its control fields, how it is made and sealed, and when it is sound.
 mod control;
 mod edc;
-mod entry;
 mod header;
 mod laws;
 mod layout;
-mod map;
 mod number;
-mod page;
 mod seal;
 mod sound;
 
 pub use control::Control1;
 pub use control::Control2;
 pub use edc::edc_of;
-pub use entry::DATA;
-pub use entry::Entry;
-pub use entry::FILLER;
-pub use entry::TAPE_MARK;
 pub use header::CHECK_BLOCK;
 pub use header::DATA_BLOCK;
 pub use header::DataHeader;
@@ -26,12 +19,10 @@ pub use header::check_control;
 pub use header::end_control;
 pub use header::end_place;
 pub use laws::blocks_stand;
-pub use laws::layouts_stand;
-pub use laws::maps_stand;
+pub use laws::controls_stand;
 pub use layout::BLOCK_LEN;
 pub use layout::FIELD_LEN;
-pub use page::Page;
-pub use page::page_at;
+pub use layout::check_length;
 pub use seal::make_check;
 pub use seal::make_data;
 pub use seal::make_end;

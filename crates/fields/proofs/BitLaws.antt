@@ -1,14 +1,15 @@
 -- Fields of bits: decoding undoes encoding, and encoding undoes decoding, by induction over the widths. Assumes nothing.
 use mathlib.Core.Path.{_≡_, refl, sym, ap, ap₂, _∙_, subst}
+use mathlib.Core.Bool.{Bool, true, false}
 use mathlib.Core.List.{List, [], _∷_, _++_}
 use Prim.Native.Nat.{ℕ, zero, suc, _+_, _*_, _/_, _%_, _^_, _<_}
-use native.Mathlib.Nat.{mod-lt, mod-eq-of-lt, mod-mod, mod-one, add-zero, mul-assoc, add-comm, add-assoc, add-mul-div-right, add-mul-mod-self-right}
+use native.Mathlib.Nat.{le-of-suc-le-suc, not-suc-le-zero, mod-lt, mod-eq-of-lt, mod-mod, mod-one, add-zero, mul-assoc, add-comm, add-assoc, add-mul-div-right, add-mul-mod-self-right}
 use native.Mathlib.Omega.{arith}
 use lib.ListN.{length, replicate, length-replicate}
 use lib.Pow.{pow-add, pow-pos, high, low, mod-pow-add}
 use lib.Arith.{digits-lt, lt-one}
-use lib.Dec.{lit<}
-use Rattle.fields.specs.Bits.{sum, join, split, bytes, value, encode, decode, Within, AllBytes, narrow, Decode-narrows, Decode-encode, Encode-decode}
+use lib.Dec.{eqb, lit<}
+use Rattle.fields.specs.Bits.{sum, bit, join, split, bytes, value, encode, decode, Within, AllBytes, narrow, Decode-narrows, Decode-encode, Encode-decode}
 
 pub join-lt : (ws vs : List ℕ) → join ws vs < 2 ^ sum ws
 join-lt [] vs = lit< tt
@@ -108,3 +109,14 @@ encode-decode ws bs e h =
     ∙ ap (bytes (length bs))
     (join-split ws (value bs) ∙ mod-eq-of-lt (subst (λ (k : ℕ). value bs < 2 ^ k) (sym e) (value-lt bs)))
     ∙ bytes-value bs h
+
+-- ---- a field of one bit
+
+pub flag-bit : (b : Bool) → eqb (bit b) 1 ≡ b
+flag-bit true = refl
+flag-bit false = refl
+
+pub bit-flag : (x : ℕ) → x < 2 → bit (eqb x 1) ≡ x
+bit-flag zero h = refl
+bit-flag (suc zero) h = refl
+bit-flag (suc (suc x)) h = absurd (not-suc-le-zero (le-of-suc-le-suc (le-of-suc-le-suc h)))

@@ -1,0 +1,4 @@
+pub mod EntryLaws
+pub mod MapSteps
+pub mod MapRule
+pub mod PageLaws
