@@ -47,7 +47,7 @@ pub struct DataHeader {
 
 impl DataHeader {
     // Control Field 1 of a data block.
-    pub fn control(self) -> Control1
+    pub(crate) fn control(self) -> Control1
         ensures { λ r. ⌜ r ≡ dataControl self ⌝ }
     {
         let DataHeader {
@@ -71,7 +71,7 @@ impl DataHeader {
 }
 
 // Control Field 1 of a check block: the entities of its envelope and the place before it.
-pub fn check_control(entities: u8, back: u32) -> Control1
+pub(crate) fn check_control(entities: u8, back: u32) -> Control1
     ensures { λ r. ⌜ r ≡ checkControl entities back ⌝ }
 {
     Control1 {
@@ -83,7 +83,7 @@ pub fn check_control(entities: u8, back: u32) -> Control1
 }
 
 // Control Field 1 of an end block: the place before the envelope that would come next.
-pub fn end_control(back: u32) -> Control1
+pub(crate) fn end_control(back: u32) -> Control1
     ensures { λ r. ⌜ r ≡ endControl back ⌝ }
 {
     Control1 {
@@ -95,7 +95,7 @@ pub fn end_control(back: u32) -> Control1
 }
 
 // Control Field 2 of an end block: its place, and the number and tag of the last envelope.
-pub fn end_place(place: u32, envelope: u16, tag: u32) -> Control2
+pub(crate) fn end_place(place: u32, envelope: u16, tag: u32) -> Control2
     ensures { λ r. ⌜ r ≡ endPlace place envelope tag ⌝ }
 {
     Control2 {
