@@ -1,12 +1,10 @@
 // A card is all that the layers above know of a medium: places that each hold a content.
+mod list;
 mod rows;
+mod skip;
 mod strip;
 mod tracks;
 
-pub use strip::StripCard;
-pub use strip::StripIsCard;
-pub use tracks::FourTrackCard;
-pub use tracks::FourTrackIsCard;
 ghost use mathlib.Core.Path.{_≡_};
 ghost use mathlib.Core.List.{List};
 ghost use lib.ListN.{length};
@@ -14,7 +12,17 @@ ghost use Rattle.refusal.specs.Tells.{told};
 ghost use Rattle.cards.specs.Content.{Content, Whole};
 ghost use Rattle.cards.specs.Calls.{judged, judgedPlace};
 ghost use Rattle.cards.specs.Calls.{getAnswer, getBuffer, putAnswer, putContents, strikeAnswer, strikeContents};
+pub use list::LIST_MAX;
+pub use list::judge_list;
+pub use list::judgement_stands;
 use refusal::Refusal;
+pub use skip::SkipCard;
+pub use skip::SkipIsCard;
+pub use skip::skipping_stands;
+pub use strip::StripCard;
+pub use strip::StripIsCard;
+pub use tracks::FourTrackCard;
+pub use tracks::FourTrackIsCard;
 
 // The bytes of a block.
 pub const BLOCK_LEN: usize = 8256;
