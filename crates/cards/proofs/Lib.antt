@@ -1,9 +1,5 @@
 pub mod AnswerLaws
 pub mod CountedLaws
 pub mod LaidLaws
-pub mod ListLaws
 pub mod RowLaws
-pub mod SkipLaws
-pub mod SparedLaws
-pub mod TableLaws
 pub mod TrackLaws

@@ -3,6 +3,4 @@ pub mod Calls
 pub mod Rows
 pub mod Tracks
 pub mod Memories
-pub mod BadPlaces
-pub mod Skipped
 pub mod Whole

@@ -1,5 +1,5 @@
 -- Every block that stands on one of the cards has 8,256 bytes, which each card owes as its member `whole`. Assumes nothing.
-use Prim.Native.Nat.{ℕ, zero, suc, _+_, _-_, _*_, _/_, _%_, _≤_, _<_}
+use Prim.Native.Nat.{ℕ, zero, suc, _+_, _*_, _/_, _%_, _≤_, _<_}
 use native.Mathlib.Omega.{arith}
 use mathlib.Core.Path.{_≡_, refl, sym, ap, _∙_}
 use mathlib.Core.Logic.{⊎-elim}
@@ -14,7 +14,6 @@ use Rattle.cards.specs.declared.Kind.the-variants.{Blank, Lost, Block}
 use Rattle.cards.specs.Content.{blockLen, Content, blank, lost, block, contentAt, bytesOf, Whole}
 use Rattle.cards.specs.Rows.{rowLen, rowCount, markKind, contentOf, rowAt, rows}
 use Rattle.cards.specs.Tracks.{memoryOf, shortest, dealtAt, dealt}
-use Rattle.cards.specs.Skipped.{unlisted, skipped}
 
 abbrev size : Content → ℕ
 size x = length (bytesOf x)
@@ -58,8 +57,3 @@ unfolding dealt
 dealt-whole ms =
     whole-counted (dealtAt ms) (4 * shortest ms)
     (λ i h. row-whole (memoryOf ms (i % 4)) (i / 4) (let s = shortest-le ms (i % 4) (omega arith) in omega arith))
-
-pub skipped-whole : (bad : List ℕ) (cs : List Content) → Whole cs → Whole (skipped bad cs)
-unfolding skipped
-skipped-whole bad cs w =
-    whole-counted (λ i. contentAt cs (unlisted bad i)) (length cs - length bad) (λ i h. w (unlisted bad i))

@@ -1,7 +1,5 @@
 // A card is all that the layers above know of a medium: places that each hold a content.
-mod list;
 mod rows;
-mod skip;
 mod strip;
 mod tracks;
 
@@ -12,13 +10,7 @@ ghost use Rattle.refusal.specs.Tells.{told};
 ghost use Rattle.cards.specs.Content.{Content, Whole};
 ghost use Rattle.cards.specs.Calls.{judged, judgedPlace};
 ghost use Rattle.cards.specs.Calls.{getAnswer, getBuffer, putAnswer, putContents, strikeAnswer, strikeContents};
-pub use list::LIST_MAX;
-pub use list::judge_list;
-pub use list::judgement_stands;
 use refusal::Refusal;
-pub use skip::SkipCard;
-pub use skip::SkipIsCard;
-pub use skip::skipping_stands;
 pub use strip::StripCard;
 pub use strip::StripIsCard;
 pub use tracks::FourTrackCard;
@@ -66,7 +58,7 @@ pub trait Card {
 }
 
 // Refuses a place that a card of so many places does not have.
-fn judge_place(place: usize, places: usize) -> Result<(), Refusal>
+pub fn judge_place(place: usize, places: usize) -> Result<(), Refusal>
     ensures { λ r. ⌜ told r ≡ judgedPlace places place ⌝ }
 {
     if place < places {
@@ -77,7 +69,7 @@ fn judge_place(place: usize, places: usize) -> Result<(), Refusal>
 }
 
 // Refuses a buffer of another length than a block's, and then a place as above.
-fn judge_call(len: usize, place: usize, places: usize) -> Result<(), Refusal>
+pub fn judge_call(len: usize, place: usize, places: usize) -> Result<(), Refusal>
     ensures { λ r. ⌜ told r ≡ judged len places place ⌝ }
 {
     if len != BLOCK_LEN {
