@@ -23,7 +23,8 @@ counted-set f g n p x l here there =
     ⊎-elim
     (λ (e : i ≡ p).
     c ∙ ap g e ∙ here
-    ∙ sym (ap (λ z. getD (set (map f (counting 0 n)) p x) z lost) e ∙ getD-set-same (map f (counting 0 n)) p x lost (omega arith)))
+    ∙ sym (ap (λ z. getD (set (map f (counting 0 n)) p x) z lost) e
+    ∙ getD-set-same (map f (counting 0 n)) p x lost (omega arith)))
     (λ ne.
     c ∙ there i ne ∙ sym (getD-map-counting f 0 n i i lost (omega arith) (omega arith))
     ∙ sym (getD-set-other (map f (counting 0 n)) p i x lost ne))

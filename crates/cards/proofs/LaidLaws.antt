@@ -8,7 +8,8 @@ use borrow.Author.Needs.{needs}
 use Rattle.std.proofs.shelf.Lists.{places, ext-getD, length-take, length-drop, getD-take, getD-drop}
 use Rattle.cards.specs.Rows.{laid}
 
-pub length-laid : {X : Type 0} (xs : List X) (at : ℕ) (ys : List X) → at + length ys ≤ length xs → length (laid xs at ys) ≡ length xs
+pub length-laid : {X : Type 0} (xs : List X) (at : ℕ) (ys : List X) → at + length ys ≤ length xs
+    → length (laid xs at ys) ≡ length xs
 unfolding laid
 length-laid xs at ys h = search (needs, places)
 

@@ -11,7 +11,21 @@ use Rattle.std.proofs.shelf.Tests.{cases-lt}
 use Rattle.cards.specs.declared.Kind.{Kind}
 use Rattle.cards.specs.Content.{blockLen, Content, block, lost, contentAt}
 use Rattle.cards.specs.Calls.{judged, judgedPlace, ifGranted, putContents, strikeContents}
-use Rattle.cards.specs.Rows.{rowLen, rowCount, blockMark, struckMark, markKind, contentOf, rowAt, rows, laid, stored, struck, putMemory, strikeMemory}
+use Rattle.cards.specs.Rows.{
+  rowLen,
+  rowCount,
+  blockMark,
+  struckMark,
+  markKind,
+  contentOf,
+  rowAt,
+  rows,
+  laid,
+  stored,
+  struck,
+  putMemory,
+  strikeMemory,
+}
 use Rattle.cards.proofs.AnswerLaws.{by-answer, judged-length, judged-within, judged-place}
 use Rattle.cards.proofs.CountedLaws.{counted-set}
 use Rattle.cards.proofs.LaidLaws.{length-laid, laid-below, laid-in, laid-above, part-same, part-is}
@@ -25,7 +39,8 @@ unfolding rows
 content-at-rows mem i h = getD-map-counting (rowAt mem) 0 (rowCount mem) i i lost h (omega arith)
 
 -- what a row holds, from what its mark was read as
-pub row-read : (mem : List ℕ) (i k m : ℕ) (kind : Kind) → k ≡ 2 → m ≡ blockLen → kind ≡ markKind (take k (drop (i * rowLen) mem))
+pub row-read : (mem : List ℕ) (i k m : ℕ) (kind : Kind) → k ≡ 2 → m ≡ blockLen
+    → kind ≡ markKind (take k (drop (i * rowLen) mem))
     → rowAt mem i ≡ contentOf kind (take m (drop (i * rowLen + 2) mem))
 unfolding rowAt
 row-read mem i k m kind ek em e = rw (e, ek, em) refl
@@ -38,7 +53,8 @@ pub record Changes (mem after : List ℕ) (p : ℕ) (x : Content) : Type 0 where
 
 -- another row lies wholly before or wholly behind row p
 row-other : (mem after : List ℕ) (p i : ℕ) → length after ≡ length mem → i ≢ p
-    → ((k : ℕ) → (k < p * rowLen) ⊎ (p * rowLen + rowLen ≤ k) → getD after k 0 ≡ getD mem k 0) → rowAt after i ≡ rowAt mem i
+    → ((k : ℕ) → (k < p * rowLen) ⊎ (p * rowLen + rowLen ≤ k) → getD after k 0 ≡ getD mem k 0)
+    → rowAt after i ≡ rowAt mem i
 unfolding rowAt
 row-other mem after p i e ne h =
     let out : (k : ℕ) → i * rowLen ≤ k → k < i * rowLen + rowLen → (k < p * rowLen) ⊎ (p * rowLen + rowLen ≤ k)
@@ -53,7 +69,8 @@ struck-changes mem p l =
     let f : p * rowLen + rowLen ≤ length mem = omega arith in
     let e = length-laid mem (p * rowLen) struckMark (omega arith) in
     let m : take 2 (drop (p * rowLen) (struck mem p)) ≡ struckMark
-    = part-is (struck mem p) struckMark (p * rowLen) 2 refl (omega arith) (λ k b. laid-in mem (p * rowLen) struckMark k 0 (omega arith) b) in
+    = part-is (struck mem p) struckMark (p * rowLen) 2 refl (omega arith)
+    (λ k b. laid-in mem (p * rowLen) struckMark k 0 (omega arith) b) in
     record {
       size = e;
       here = ap (λ z. contentOf (markKind z) (take blockLen (drop (p * rowLen + 2) (struck mem p)))) m;
@@ -62,7 +79,8 @@ struck-changes mem p l =
           (λ v. laid-above mem (p * rowLen) struckMark k 0 (omega arith) (omega arith)));
     }
 
-pub stored-changes : (mem bs : List ℕ) (p : ℕ) → p < rowCount mem → length bs ≡ blockLen → Changes mem (stored mem p bs) p (block bs)
+pub stored-changes : (mem bs : List ℕ) (p : ℕ) → p < rowCount mem → length bs ≡ blockLen
+    → Changes mem (stored mem p bs) p (block bs)
 unfolding rowAt
 stored-changes mem bs p l eb =
     let f : p * rowLen + rowLen ≤ length mem = omega arith in
@@ -71,19 +89,24 @@ stored-changes mem bs p l eb =
     let e2 : length (stored mem p bs) ≡ length one = length-laid one (p * rowLen + 2) bs (omega arith) in
     let m : take 2 (drop (p * rowLen) (stored mem p bs)) ≡ blockMark
     = part-is (stored mem p bs) blockMark (p * rowLen) 2 refl (omega arith)
-    (λ k b. laid-below one (p * rowLen + 2) bs (p * rowLen + k) 0 (omega arith) (omega arith) ∙ laid-in mem (p * rowLen) blockMark k 0 (omega arith) b) in
+    (λ k b. laid-below one (p * rowLen + 2) bs (p * rowLen + k) 0 (omega arith) (omega arith)
+    ∙ laid-in mem (p * rowLen) blockMark k 0 (omega arith) b) in
     let w : take blockLen (drop (p * rowLen + 2) (stored mem p bs)) ≡ bs
-    = part-is (stored mem p bs) bs (p * rowLen + 2) blockLen eb (omega arith) (λ k b. laid-in one (p * rowLen + 2) bs k 0 (omega arith) (omega arith)) in
+    = part-is (stored mem p bs) bs (p * rowLen + 2) blockLen eb (omega arith)
+    (λ k b. laid-in one (p * rowLen + 2) bs k 0 (omega arith) (omega arith)) in
     record {
       size = e2 ∙ e1;
       here = ap (λ z. contentOf (markKind z) (take blockLen (drop (p * rowLen + 2) (stored mem p bs)))) m ∙ ap block w;
       there = λ i ne. row-other mem (stored mem p bs) p i (e2 ∙ e1) ne
           (λ k. ⊎-elim
-          (λ u. laid-below one (p * rowLen + 2) bs k 0 (omega arith) (omega arith) ∙ laid-below mem (p * rowLen) blockMark k 0 (omega arith) u)
-          (λ v. laid-above one (p * rowLen + 2) bs k 0 (omega arith) (omega arith) ∙ laid-above mem (p * rowLen) blockMark k 0 (omega arith) (omega arith)));
+          (λ u. laid-below one (p * rowLen + 2) bs k 0 (omega arith) (omega arith)
+          ∙ laid-below mem (p * rowLen) blockMark k 0 (omega arith) u)
+          (λ v. laid-above one (p * rowLen + 2) bs k 0 (omega arith) (omega arith)
+          ∙ laid-above mem (p * rowLen) blockMark k 0 (omega arith) (omega arith)));
     }
 
-pub rows-changed : (mem after : List ℕ) (p : ℕ) (x : Content) → p < rowCount mem → Changes mem after p x → rows after ≡ set (rows mem) p x
+pub rows-changed : (mem after : List ℕ) (p : ℕ) (x : Content) → p < rowCount mem → Changes mem after p x
+    → rows after ≡ set (rows mem) p x
 unfolding rows
 rows-changed mem after p x l c =
     ap (λ z. map (rowAt after) (counting 0 (z / rowLen))) (c .size)
@@ -96,7 +119,8 @@ rows-put mem p bs =
     (judged (length bs) (rowCount mem) p)
     (λ g.
     let l = judged-within (length bs) (rowCount mem) p g in
-    rows-changed mem (stored mem p bs) p (block bs) l (stored-changes mem bs p l (judged-length (length bs) (rowCount mem) p g)))
+    rows-changed mem (stored mem p bs) p (block bs) l
+    (stored-changes mem bs p l (judged-length (length bs) (rowCount mem) p g)))
     (λ _. refl)
     ∙ ap (λ z. ifGranted (judged (length bs) z p) (set (rows mem) p (block bs)) (rows mem)) (sym (length-rows mem))
 

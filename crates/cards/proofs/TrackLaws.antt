@@ -65,9 +65,11 @@ module _ (ms : List (List ℕ)) (four : length ms ≡ 4) (p : ℕ) (l : p < 4 * 
       (ap (λ z. rowAt z (p / 4)) changed-same ∙ c .here) changed-there
 
 -- what the places hold after a put or a strike, from what the memories hold
-pub dealt-put : (ms : List (List ℕ)) → length ms ≡ 4 → (p : ℕ) (bs : List ℕ) → dealt (putMemories ms p bs) ≡ putContents (dealt ms) p bs
+pub dealt-put : (ms : List (List ℕ)) → length ms ≡ 4 → (p : ℕ) (bs : List ℕ)
+    → dealt (putMemories ms p bs) ≡ putContents (dealt ms) p bs
 dealt-put ms four p bs =
-    by-answer (λ a. dealt (ifGranted a (onTrack ms p (λ mem row. stored mem row bs)) ms) ≡ ifGranted a (set (dealt ms) p (block bs)) (dealt ms))
+    by-answer (λ a. dealt (ifGranted a (onTrack ms p (λ mem row. stored mem row bs)) ms)
+    ≡ ifGranted a (set (dealt ms) p (block bs)) (dealt ms))
     (judged (length bs) (4 * shortest ms) p)
     (λ g.
     let l = judged-within (length bs) (4 * shortest ms) p g in
@@ -77,7 +79,8 @@ dealt-put ms four p bs =
     (λ _. refl)
     ∙ ap (λ z. ifGranted (judged (length bs) z p) (set (dealt ms) p (block bs)) (dealt ms)) (sym (length-dealt ms))
 
-pub dealt-strike : (ms : List (List ℕ)) → length ms ≡ 4 → (p : ℕ) → dealt (strikeMemories ms p) ≡ strikeContents (dealt ms) p
+pub dealt-strike : (ms : List (List ℕ)) → length ms ≡ 4 → (p : ℕ)
+    → dealt (strikeMemories ms p) ≡ strikeContents (dealt ms) p
 dealt-strike ms four p =
     by-answer (λ a. dealt (ifGranted a (onTrack ms p struck) ms) ≡ ifGranted a (set (dealt ms) p lost) (dealt ms))
     (judgedPlace (4 * shortest ms) p)

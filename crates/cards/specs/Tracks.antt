@@ -17,7 +17,8 @@ memoryOf ms j = getD ms j []
 
 abbrev pub shortest : List (List ℕ) → ℕ
 shortest ms =
-    min (min (rowCount (memoryOf ms 0)) (rowCount (memoryOf ms 1))) (min (rowCount (memoryOf ms 2)) (rowCount (memoryOf ms 3)))
+    min (min (rowCount (memoryOf ms 0)) (rowCount (memoryOf ms 1)))
+    (min (rowCount (memoryOf ms 2)) (rowCount (memoryOf ms 3)))
 
 abbrev pub dealtAt : List (List ℕ) → ℕ → Content
 dealtAt ms i = rowAt (memoryOf ms (i % 4)) (i / 4)

@@ -1,4 +1,4 @@
--- Every block that stands on one of the cards has 8,256 bytes, which each card owes as its member `whole`. Assumes nothing.
+-- Every block that stands in a memory has 8,256 bytes, which a card owes as its member `whole`. Assumes nothing.
 use Prim.Native.Nat.{ℕ, zero, suc, _+_, _*_, _/_, _%_, _≤_, _<_}
 use native.Mathlib.Omega.{arith}
 use mathlib.Core.Path.{_≡_, refl, sym, ap, _∙_}

@@ -48,8 +48,10 @@ pub trait Card {
 
     // Gives a place a block.
     fn put(&mut self, place: usize, block: &[u8]) -> Result<(), Refusal>
-        ensures answer { λ r. ⌜ told r ≡ putAnswer (contents (now (self .entry))) place (length (now (block .entry))) ⌝ }
-        ensures card { λ _. ⌜ contents (now (self .exit)) ≡ putContents (contents (now (self .entry))) place (now (block .entry)) ⌝ };
+        ensures answer { λ r. ⌜ told r ≡ putAnswer (contents (now (self .entry))) place
+            (length (now (block .entry))) ⌝ }
+        ensures card { λ _. ⌜ contents (now (self .exit))
+            ≡ putContents (contents (now (self .entry))) place (now (block .entry)) ⌝ };
 
     // Makes a place lost.
     fn strike(&mut self, place: usize) -> Result<(), Refusal>

@@ -46,9 +46,12 @@ pub impl Card for StripCard<'_> as StripIsCard {
     }
 
     fn put(&mut self, place: usize, block: &[u8]) -> Result<(), Refusal>
-        ensures answer { λ r. ⌜ told r ≡ putAnswer (rows (now (now (self .entry) .mem))) place (length (now (block .entry))) ⌝ }
-        ensures card { λ _. ⌜ rows (now (now (self .exit) .mem)) ≡ putContents (rows (now (now (self .entry) .mem))) place (now (block .entry)) ⌝ }
-        ensures memory { λ _. ⌜ now (now (self .exit) .mem) ≡ putMemory (now (now (self .entry) .mem)) place (now (block .entry)) ⌝ }
+        ensures answer { λ r. ⌜ told r ≡ putAnswer (rows (now (now (self .entry) .mem))) place
+            (length (now (block .entry))) ⌝ }
+        ensures card { λ _. ⌜ rows (now (now (self .exit) .mem))
+            ≡ putContents (rows (now (now (self .entry) .mem))) place (now (block .entry)) ⌝ }
+        ensures memory { λ _. ⌜ now (now (self .exit) .mem)
+            ≡ putMemory (now (now (self .entry) .mem)) place (now (block .entry)) ⌝ }
         ensures held { λ _. ⌜ name (now (self .exit) .mem) ≡ name (now (self .entry) .mem) ⌝ }
     {
         judge_call(block.len(), place, row_count(self.mem.len()))?;
@@ -58,7 +61,8 @@ pub impl Card for StripCard<'_> as StripIsCard {
 
     fn strike(&mut self, place: usize) -> Result<(), Refusal>
         ensures answer { λ r. ⌜ told r ≡ strikeAnswer (rows (now (now (self .entry) .mem))) place ⌝ }
-        ensures card { λ _. ⌜ rows (now (now (self .exit) .mem)) ≡ strikeContents (rows (now (now (self .entry) .mem))) place ⌝ }
+        ensures card { λ _. ⌜ rows (now (now (self .exit) .mem))
+            ≡ strikeContents (rows (now (now (self .entry) .mem))) place ⌝ }
         ensures memory { λ _. ⌜ now (now (self .exit) .mem) ≡ strikeMemory (now (now (self .entry) .mem)) place ⌝ }
         ensures held { λ _. ⌜ name (now (self .exit) .mem) ≡ name (now (self .entry) .mem) ⌝ }
     {

@@ -49,8 +49,10 @@ impl<'a> FourTrackCard<'a> {
         third: &'a mut [u8],
         fourth: &'a mut [u8],
     ) -> FourTrackCard<'a>
-        ensures memories { λ r. ⌜ memories r ≡ now (first .entry) ∷ now (second .entry) ∷ now (third .entry) ∷ now (fourth .entry) ∷ [] ⌝ }
-        ensures held { λ r. ⌜ (name (r .first) ≡ name (first .entry)) × (name (r .second) ≡ name (second .entry)) × (name (r .third) ≡ name (third .entry)) × (name (r .fourth) ≡ name (fourth .entry)) ⌝ }
+        ensures memories { λ r. ⌜ memories r
+            ≡ now (first .entry) ∷ now (second .entry) ∷ now (third .entry) ∷ now (fourth .entry) ∷ [] ⌝ }
+        ensures held { λ r. ⌜ (name (r .first) ≡ name (first .entry)) × (name (r .second) ≡ name (second .entry))
+            × (name (r .third) ≡ name (third .entry)) × (name (r .fourth) ≡ name (fourth .entry)) ⌝ }
     {
         FourTrackCard {
             first,
@@ -99,10 +101,16 @@ pub impl Card for FourTrackCard<'_> as FourTrackIsCard {
     }
 
     fn put(&mut self, place: usize, block: &[u8]) -> Result<(), Refusal>
-        ensures answer { λ r. ⌜ told r ≡ putAnswer (dealt (memories (now (self .entry)))) place (length (now (block .entry))) ⌝ }
-        ensures card { λ _. ⌜ dealt (memories (now (self .exit))) ≡ putContents (dealt (memories (now (self .entry)))) place (now (block .entry)) ⌝ }
-        ensures memories { λ _. ⌜ memories (now (self .exit)) ≡ putMemories (memories (now (self .entry))) place (now (block .entry)) ⌝ }
-        ensures held { λ _. ⌜ (name (now (self .exit) .first) ≡ name (now (self .entry) .first)) × (name (now (self .exit) .second) ≡ name (now (self .entry) .second)) × (name (now (self .exit) .third) ≡ name (now (self .entry) .third)) × (name (now (self .exit) .fourth) ≡ name (now (self .entry) .fourth)) ⌝ }
+        ensures answer { λ r. ⌜ told r ≡ putAnswer (dealt (memories (now (self .entry)))) place
+            (length (now (block .entry))) ⌝ }
+        ensures card { λ _. ⌜ dealt (memories (now (self .exit)))
+            ≡ putContents (dealt (memories (now (self .entry)))) place (now (block .entry)) ⌝ }
+        ensures memories { λ _. ⌜ memories (now (self .exit))
+            ≡ putMemories (memories (now (self .entry))) place (now (block .entry)) ⌝ }
+        ensures held { λ _. ⌜ (name (now (self .exit) .first) ≡ name (now (self .entry) .first))
+            × (name (now (self .exit) .second) ≡ name (now (self .entry) .second))
+            × (name (now (self .exit) .third) ≡ name (now (self .entry) .third))
+            × (name (now (self .exit) .fourth) ≡ name (now (self .entry) .fourth)) ⌝ }
     {
         judge_call(block.len(), place, 4 * self.rows())?;
         let row = row_of(place);
@@ -117,9 +125,13 @@ pub impl Card for FourTrackCard<'_> as FourTrackIsCard {
 
     fn strike(&mut self, place: usize) -> Result<(), Refusal>
         ensures answer { λ r. ⌜ told r ≡ strikeAnswer (dealt (memories (now (self .entry)))) place ⌝ }
-        ensures card { λ _. ⌜ dealt (memories (now (self .exit))) ≡ strikeContents (dealt (memories (now (self .entry)))) place ⌝ }
+        ensures card { λ _. ⌜ dealt (memories (now (self .exit)))
+            ≡ strikeContents (dealt (memories (now (self .entry)))) place ⌝ }
         ensures memories { λ _. ⌜ memories (now (self .exit)) ≡ strikeMemories (memories (now (self .entry))) place ⌝ }
-        ensures held { λ _. ⌜ (name (now (self .exit) .first) ≡ name (now (self .entry) .first)) × (name (now (self .exit) .second) ≡ name (now (self .entry) .second)) × (name (now (self .exit) .third) ≡ name (now (self .entry) .third)) × (name (now (self .exit) .fourth) ≡ name (now (self .entry) .fourth)) ⌝ }
+        ensures held { λ _. ⌜ (name (now (self .exit) .first) ≡ name (now (self .entry) .first))
+            × (name (now (self .exit) .second) ≡ name (now (self .entry) .second))
+            × (name (now (self .exit) .third) ≡ name (now (self .entry) .third))
+            × (name (now (self .exit) .fourth) ≡ name (now (self .entry) .fourth)) ⌝ }
     {
         judge_place(place, 4 * self.rows())?;
         let row = row_of(place);

@@ -17,5 +17,6 @@ pub getD-blocks : (bytes : List ℕ) (n i : ℕ) → i < n → getD (blocks byte
 unfolding blocks
 getD-blocks bytes n i h = getD-map-counting (λ j. block (blockAt bytes j)) 0 n i i lost h (omega arith)
 
-pub length-block-at : (bytes : List ℕ) (n i : ℕ) → i < n → n * blockLen ≤ length bytes → length (blockAt bytes i) ≡ blockLen
+pub length-block-at : (bytes : List ℕ) (n i : ℕ) → i < n → n * blockLen ≤ length bytes
+    → length (blockAt bytes i) ≡ blockLen
 length-block-at bytes n i h f = simp (length-take, length-drop) (omega arith)

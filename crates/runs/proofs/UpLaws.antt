@@ -12,12 +12,15 @@ use Rattle.cards.specs.Rows.{laid}
 use Rattle.cards.proofs.AnswerLaws.{put-in}
 
 -- one turn: the i-th of the contents ys is put at place s + i
-pub up-more : (cs ys : List Content) (s i : ℕ) (was then : List Content) (bs : List ℕ) → was ≡ paste cs s ys i → then ≡ putContents was (s + i) bs
-    → s + i < length cs → i < length ys → getD ys i lost ≡ block bs → length bs ≡ blockLen → then ≡ paste cs s ys (i + 1)
+pub up-more : (cs ys : List Content) (s i : ℕ) (was then : List Content) (bs : List ℕ) → was ≡ paste cs s ys i
+    → then ≡ putContents was (s + i) bs
+    → s + i < length cs → i < length ys → getD ys i lost ≡ block bs → length bs ≡ blockLen
+    → then ≡ paste cs s ys (i + 1)
 up-more cs ys s i was then bs w t h k e n =
     let p = length-paste cs s ys i (omega arith) (omega arith) in
     let q = ap length w in
-    t ∙ put-in was (s + i) bs n (omega arith) ∙ ap (λ z. set z (s + i) (block bs)) w ∙ ap (λ x. set (paste cs s ys i) (s + i) x) (sym e)
+    t ∙ put-in was (s + i) bs n (omega arith) ∙ ap (λ z. set z (s + i) (block bs)) w
+    ∙ ap (λ x. set (paste cs s ys i) (s + i) x) (sym e)
     ∙ paste-more cs s ys i lost h k
 
 pub up-all : (cs ys : List Content) (s n : ℕ) → length ys ≡ n → paste cs s ys n ≡ laid cs s ys

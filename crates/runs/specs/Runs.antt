@@ -5,8 +5,8 @@
 --   judgedBlock m        1 and the length m, unless it is that of a block
 --   judgedBlocks m       1 and the length m, unless it is that of whole blocks
 --   judgedRun P s n      2 and the first place that is lacking, unless the n places from s on are among P places
---   copiesAnswer, copiesContents   what is answered, and what the places hold, where n copies of a block are put from s on
---   runAnswer, runContents         the same, where all blocks of some bytes are put from s on
+--   copiesAnswer, copiesContents   what is answered, and what the places then hold, for n copies of a block from s on
+--   runAnswer, runContents         the same for all blocks of some bytes, from s on
 --   runBytes cs s n      what n gets from place s on give, joined; a place that is not there gives zeros
 --   runBuffer cs s buf   what a buffer holds after its blocks are got from the places from s on
 use Prim.Native.Nat.{ℕ, _+_, _*_, _/_, _%_, max}

@@ -19,7 +19,8 @@ fn lay_copies<C: Card>(card: &mut C, start: usize, count: usize, body: &[u8])
     requires room { ⌜ start + count ≤ length (contents (now card)) ⌝ }
     requires small { ⌜ start + count < 2 ^ 64 ⌝ }
     requires sized { ⌜ length (now body) ≡ 8256 ⌝ }
-    ensures { λ _. ⌜ contents (now (card .exit)) ≡ laid (contents (now (card .entry))) start (replicate count (block (now (body .entry)))) ⌝ }
+    ensures { λ _. ⌜ contents (now (card .exit))
+        ≡ laid (contents (now (card .entry))) start (replicate count (block (now (body .entry)))) ⌝ }
 {
     for i in 0..count {
         let _ = card.put(start + i, body);
@@ -31,7 +32,8 @@ fn lay_up<C: Card>(card: &mut C, start: usize, count: usize, bytes: &[u8])
     requires room { ⌜ start + count ≤ length (contents (now card)) ⌝ }
     requires small { ⌜ start + count < 2 ^ 64 ⌝ }
     requires sized { ⌜ count * 8256 ≤ length (now bytes) ⌝ }
-    ensures { λ _. ⌜ contents (now (card .exit)) ≡ laid (contents (now (card .entry))) start (blocks (now (bytes .entry)) count) ⌝ }
+    ensures { λ _. ⌜ contents (now (card .exit))
+        ≡ laid (contents (now (card .entry))) start (blocks (now (bytes .entry)) count) ⌝ }
 {
     for i in 0..count {
         let _ = card.put(start + i, block_of(bytes, i));
@@ -43,7 +45,8 @@ fn lay_down<C: Card>(card: &mut C, start: usize, count: usize, bytes: &[u8])
     requires room { ⌜ start + count ≤ length (contents (now card)) ⌝ }
     requires small { ⌜ start + count < 2 ^ 64 ⌝ }
     requires sized { ⌜ count * 8256 ≤ length (now bytes) ⌝ }
-    ensures { λ _. ⌜ contents (now (card .exit)) ≡ laid (contents (now (card .entry))) start (blocks (now (bytes .entry)) count) ⌝ }
+    ensures { λ _. ⌜ contents (now (card .exit))
+        ≡ laid (contents (now (card .entry))) start (blocks (now (bytes .entry)) count) ⌝ }
 {
     for i in (0..count).rev() {
         let _ = card.put(start + i, block_of(bytes, i));
@@ -57,8 +60,10 @@ pub fn put_copies<C: Card>(
     count: usize,
     body: &[u8],
 ) -> Result<(), Refusal>
-    ensures answer { λ r. ⌜ told r ≡ copiesAnswer (length (contents (now (card .entry)))) start count (length (now (body .entry))) ⌝ }
-    ensures card { λ _. ⌜ contents (now (card .exit)) ≡ copiesContents (contents (now (card .entry))) start count (now (body .entry)) ⌝ }
+    ensures answer { λ r. ⌜ told r ≡ copiesAnswer (length (contents (now (card .entry)))) start count
+        (length (now (body .entry))) ⌝ }
+    ensures card { λ _. ⌜ contents (now (card .exit))
+        ≡ copiesContents (contents (now (card .entry))) start count (now (body .entry)) ⌝ }
 {
     judge_block(body.len())?;
     judge_run(start, count, card.places())?;
@@ -68,8 +73,10 @@ pub fn put_copies<C: Card>(
 
 // Puts joined blocks at the places from the start on, or none of them.
 pub fn put_run<C: Card>(card: &mut C, start: usize, bytes: &[u8]) -> Result<(), Refusal>
-    ensures answer { λ r. ⌜ told r ≡ runAnswer (length (contents (now (card .entry)))) start (length (now (bytes .entry))) ⌝ }
-    ensures card { λ _. ⌜ contents (now (card .exit)) ≡ runContents (contents (now (card .entry))) start (now (bytes .entry)) ⌝ }
+    ensures answer { λ r. ⌜ told r ≡ runAnswer (length (contents (now (card .entry)))) start
+        (length (now (bytes .entry))) ⌝ }
+    ensures card { λ _. ⌜ contents (now (card .exit))
+        ≡ runContents (contents (now (card .entry))) start (now (bytes .entry)) ⌝ }
 {
     judge_blocks(bytes.len())?;
     let count = bytes.len() / BLOCK_LEN;
@@ -80,8 +87,10 @@ pub fn put_run<C: Card>(card: &mut C, start: usize, bytes: &[u8]) -> Result<(), 
 
 // The same, from the top place down.
 pub fn put_run_down<C: Card>(card: &mut C, start: usize, bytes: &[u8]) -> Result<(), Refusal>
-    ensures answer { λ r. ⌜ told r ≡ runAnswer (length (contents (now (card .entry)))) start (length (now (bytes .entry))) ⌝ }
-    ensures card { λ _. ⌜ contents (now (card .exit)) ≡ runContents (contents (now (card .entry))) start (now (bytes .entry)) ⌝ }
+    ensures answer { λ r. ⌜ told r ≡ runAnswer (length (contents (now (card .entry)))) start
+        (length (now (bytes .entry))) ⌝ }
+    ensures card { λ _. ⌜ contents (now (card .exit))
+        ≡ runContents (contents (now (card .entry))) start (now (bytes .entry)) ⌝ }
 {
     judge_blocks(bytes.len())?;
     let count = bytes.len() / BLOCK_LEN;

@@ -16,10 +16,12 @@ use Rattle.skip.specs.BadPlaces.{listMax, goodEntry, judgedAt, listAnswer, Law
 
 -- one entry more
 pub judged-step : (P : ℕ) (bad : List ℕ) (i n : ℕ) → i < n
-    → judgedAt P bad (counting i (n - i)) ≡ cond (goodEntry P bad i) (judgedAt P bad (counting (i + 1) (n - (i + 1)))) (Err (7, i ∷ []))
+    → judgedAt P bad (counting i (n - i)) ≡ cond (goodEntry P bad i)
+    (judgedAt P bad (counting (i + 1) (n - (i + 1)))) (Err (7, i ∷ []))
 judged-step P bad i n h = let e : n - i ≡ suc (n - (i + 1)) = omega arith in ap (λ z. judgedAt P bad (counting i z)) e
 
-granted-first : (b : Bool) (more : Answer (Unit {0})) (e : ℕ × List ℕ) → cond b more (Err e) ≡ Ok tt → (b ≡ true) × (more ≡ Ok tt)
+granted-first : (b : Bool) (more : Answer (Unit {0})) (e : ℕ × List ℕ) → cond b more (Err e) ≡ Ok tt
+    → (b ≡ true) × (more ≡ Ok tt)
 granted-first true more e h = (refl, h)
 granted-first false more e h = let z : _≡_ {A = ℕ} 0 1 = cc in absurd (omega arith)
 
@@ -36,7 +38,8 @@ granted-from-good : (P : ℕ) (bad : List ℕ) (n a : ℕ) → ((i : ℕ) → a 
     → judgedAt P bad (counting a n) ≡ Ok tt
 granted-from-good P bad zero a h = refl
 granted-from-good P bad (suc n) a h =
-    cond-true (goodEntry P bad a) (judgedAt P bad (counting (a + 1) n)) (Err (7, a ∷ [])) (h a (omega arith) (omega arith))
+    cond-true (goodEntry P bad a) (judgedAt P bad (counting (a + 1) n)) (Err (7, a ∷ []))
+    (h a (omega arith) (omega arith))
     ∙ granted-from-good P bad n (a + 1) (λ i low high. h i (omega arith) (omega arith))
 
 granted-few : (P : ℕ) (bad : List ℕ) → listAnswer P bad ≡ Ok tt → length bad ≤ listMax

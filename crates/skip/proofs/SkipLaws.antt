@@ -56,25 +56,32 @@ pub skipped-set : (bad : List ℕ) (cs : List Content) (p : ℕ) (x : Content) �
 unfolding skipped
 skipped-set bad cs p x h =
     let b = unlisted-bound bad p in
-    ap (λ z. map (λ i. contentAt (set cs (unlisted bad p) x) (unlisted bad i)) (counting 0 (z - length bad))) (length-set cs (unlisted bad p) x)
-    ∙ counted-set (λ i. contentAt cs (unlisted bad i)) (λ i. contentAt (set cs (unlisted bad p) x) (unlisted bad i)) (length cs - length bad) p x h
+    ap (λ z. map (λ i. contentAt (set cs (unlisted bad p) x) (unlisted bad i)) (counting 0 (z - length bad)))
+    (length-set cs (unlisted bad p) x)
+    ∙ counted-set (λ i. contentAt cs (unlisted bad i)) (λ i. contentAt (set cs (unlisted bad p) x) (unlisted bad i))
+    (length cs - length bad) p x h
     (getD-set-same cs (unlisted bad p) x lost (omega arith))
     (λ i ne. getD-set-other cs (unlisted bad p) (unlisted bad i) x lost (unlisted-apart bad i p ne))
 
 -- what the places hold after a put or a strike, from what the card below holds
-pub skipped-put : (bad : List ℕ) (cs : List Content) (p : ℕ) (bs : List ℕ) → skipped bad (putBelow bad cs p bs) ≡ putContents (skipped bad cs) p bs
+pub skipped-put : (bad : List ℕ) (cs : List Content) (p : ℕ) (bs : List ℕ)
+    → skipped bad (putBelow bad cs p bs) ≡ putContents (skipped bad cs) p bs
 skipped-put bad cs p bs =
     by-answer
-    (λ a. skipped bad (ifGranted a (set cs (unlisted bad p) (block bs)) cs) ≡ ifGranted a (set (skipped bad cs) p (block bs)) (skipped bad cs))
+    (λ a. skipped bad (ifGranted a (set cs (unlisted bad p) (block bs)) cs)
+    ≡ ifGranted a (set (skipped bad cs) p (block bs)) (skipped bad cs))
     (judged (length bs) (length cs - length bad) p)
     (λ g. skipped-set bad cs p (block bs) (judged-within (length bs) (length cs - length bad) p g))
     (λ _. refl)
-    ∙ ap (λ z. ifGranted (judged (length bs) z p) (set (skipped bad cs) p (block bs)) (skipped bad cs)) (sym (length-skipped bad cs))
+    ∙ ap (λ z. ifGranted (judged (length bs) z p) (set (skipped bad cs) p (block bs)) (skipped bad cs))
+    (sym (length-skipped bad cs))
 
-pub skipped-strike : (bad : List ℕ) (cs : List Content) (p : ℕ) → skipped bad (strikeBelow bad cs p) ≡ strikeContents (skipped bad cs) p
+pub skipped-strike : (bad : List ℕ) (cs : List Content) (p : ℕ)
+    → skipped bad (strikeBelow bad cs p) ≡ strikeContents (skipped bad cs) p
 skipped-strike bad cs p =
     by-answer
-    (λ a. skipped bad (ifGranted a (set cs (unlisted bad p) lost) cs) ≡ ifGranted a (set (skipped bad cs) p lost) (skipped bad cs))
+    (λ a. skipped bad (ifGranted a (set cs (unlisted bad p) lost) cs)
+    ≡ ifGranted a (set (skipped bad cs) p lost) (skipped bad cs))
     (judgedPlace (length cs - length bad) p)
     (λ g. skipped-set bad cs p lost (judged-place (length cs - length bad) p g))
     (λ _. refl)

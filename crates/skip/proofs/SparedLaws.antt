@@ -19,13 +19,15 @@ abbrev Rises : ℕ → ℕ → List ℕ → Type 0
 Rises lo hi [] = Unit {0}
 Rises lo hi (b ∷ bs) = (lo ≤ b) × (b < hi) × Rises (b + 1) hi bs
 
-rises-from-entries : (bad : List ℕ) (lo hi : ℕ) → (0 < length bad → lo ≤ getD bad 0 0) → ((i : ℕ) → i < length bad → getD bad i 0 < hi)
+rises-from-entries : (bad : List ℕ) (lo hi : ℕ) → (0 < length bad → lo ≤ getD bad 0 0)
+    → ((i : ℕ) → i < length bad → getD bad i 0 < hi)
     → ((i : ℕ) → i + 1 < length bad → getD bad i 0 < getD bad (i + 1) 0) → Rises lo hi bad
 rises-from-entries [] lo hi first below rising = tt
 rises-from-entries (b ∷ bs) lo hi first below rising = (
   first (omega arith),
   below 0 (omega arith),
-  rises-from-entries bs (b + 1) hi (λ h. let r = rising 0 (omega arith) in omega arith) (λ i h. below (suc i) (omega arith))
+  rises-from-entries bs (b + 1) hi (λ h. let r = rising 0 (omega arith) in omega arith)
+      (λ i h. below (suc i) (omega arith))
       (λ i h.
       let e : suc i + 1 ≡ suc (i + 1) = omega arith in
       subst (λ z. getD bs i 0 < getD (b ∷ bs) z 0) e (rising (suc i) (omega arith))),
@@ -39,28 +41,34 @@ rises-few (b ∷ bs) lo hi r h = let k = rises-few bs (b + 1) hi (r .2) (omega a
 above-same : (bs : List ℕ) (lo hi p : ℕ) → Rises lo hi bs → p < lo → unlisted bs p ≡ p
 above-same [] lo hi p r h = refl
 above-same (b ∷ bs) lo hi p r h =
-    ap (unlisted bs) (cond-false (leb b p) (p + 1) p (lt-leb b p (omega arith))) ∙ above-same bs (b + 1) hi p (r .2) (omega arith)
+    ap (unlisted bs) (cond-false (leb b p) (p + 1) p (lt-leb b p (omega arith)))
+    ∙ above-same bs (b + 1) hi p (r .2) (omega arith)
 
 above-unlisted : (bs : List ℕ) (lo hi p : ℕ) → Rises lo hi bs → p < lo → listed p bs ≡ false
 above-unlisted [] lo hi p r h = refl
 above-unlisted (b ∷ bs) lo hi p r h =
-    or-from (eqb b p) (listed p bs) (ne-eqb b p (λ e. omega arith)) (above-unlisted bs (b + 1) hi p (r .2) (omega arith))
+    or-from (eqb b p) (listed p bs) (ne-eqb b p (λ e. omega arith))
+    (above-unlisted bs (b + 1) hi p (r .2) (omega arith))
 
 -- an entry below all places counts for nothing
 unlisted-from-above : (b : ℕ) (bs : List ℕ) (n p : ℕ) → b < p → unlistedFrom (b ∷ bs) p n ≡ unlistedFrom bs p n
 unlisted-from-above b bs zero p h = refl
 unlisted-from-above b bs (suc n) p h =
-    ap (λ t. cond (t || listed p bs) (unlistedFrom (b ∷ bs) (p + 1) n) (p ∷ unlistedFrom (b ∷ bs) (p + 1) n)) (ne-eqb b p (λ e. omega arith))
+    ap (λ t. cond (t || listed p bs) (unlistedFrom (b ∷ bs) (p + 1) n) (p ∷ unlistedFrom (b ∷ bs) (p + 1) n))
+    (ne-eqb b p (λ e. omega arith))
     ∙ ap (λ z. cond (listed p bs) z (p ∷ z)) (unlisted-from-above b bs n (p + 1) (omega arith))
 
 -- an entry at or below all places moves each by one
-stepped-all : (b : ℕ) (bs : List ℕ) (n a : ℕ) → b ≤ a → map (unlisted (b ∷ bs)) (counting a n) ≡ map (unlisted bs) (counting (a + 1) n)
+stepped-all : (b : ℕ) (bs : List ℕ) (n a : ℕ) → b ≤ a
+    → map (unlisted (b ∷ bs)) (counting a n) ≡ map (unlisted bs) (counting (a + 1) n)
 stepped-all b bs zero a h = refl
 stepped-all b bs (suc n) a h =
-    ap (λ z. unlisted bs z ∷ map (unlisted (b ∷ bs)) (counting (a + 1) n)) (cond-true (leb b a) (a + 1) a (le-leb b a h))
+    ap (λ z. unlisted bs z ∷ map (unlisted (b ∷ bs)) (counting (a + 1) n))
+    (cond-true (leb b a) (a + 1) a (le-leb b a h))
     ∙ ap (λ z. unlisted bs (a + 1) ∷ z) (stepped-all b bs n (a + 1) (omega arith))
 
-unlisted-are : (n : ℕ) (bad : List ℕ) (a : ℕ) → Rises a (a + n) bad → unlistedFrom bad a n ≡ map (unlisted bad) (counting a (n - length bad))
+unlisted-are : (n : ℕ) (bad : List ℕ) (a : ℕ) → Rises a (a + n) bad
+    → unlistedFrom bad a n ≡ map (unlisted bad) (counting a (n - length bad))
 unlisted-are zero [] a r = refl
 unlisted-are zero (b ∷ bs) a r = absurd (omega arith)
 unlisted-are (suc n) [] a r =
@@ -95,7 +103,8 @@ unlisted-are (suc n) (b ∷ bs) a r =
 module _ (bad : List ℕ) (cs : List Content) (l : Lawful (length cs) bad) where
   lawful-rises : Rises 0 (0 + length cs) bad
   lawful-rises =
-      rises-from-entries bad 0 (0 + length cs) (λ h. omega arith) (λ i h. let b = l .below i h in omega arith) (l .rising)
+      rises-from-entries bad 0 (0 + length cs) (λ h. omega arith) (λ i h. let b = l .below i h in omega arith)
+      (l .rising)
 
   pub skipped-is-spared : skipped bad cs ≡ spared bad cs
   unfolding skipped spared

@@ -7,7 +7,18 @@ use lib.ListN.{length, set, take}
 use Rattle.std.specs.declared.result.Result.the-variants.{Ok}
 use Rattle.std.proofs.shelf.Lists.{length-take-le}
 use Rattle.cards.specs.Content.{Content, block, lost, contentAt, bytesOf}
-use Rattle.cards.specs.Calls.{kindOf, judged, judgedPlace, ifGranted, getAnswer, getBuffer, putAnswer, putContents, strikeAnswer, strikeContents}
+use Rattle.cards.specs.Calls.{
+  kindOf,
+  judged,
+  judgedPlace,
+  ifGranted,
+  getAnswer,
+  getBuffer,
+  putAnswer,
+  putContents,
+  strikeAnswer,
+  strikeContents,
+}
 use Rattle.skip.specs.Skipped.{unlisted, skipped, putBelow, strikeBelow}
 use Rattle.cards.proofs.AnswerLaws.{judged-ok, judged-place-ok, get-in, buffer-in, put-in, strike-in}
 use Rattle.skip.proofs.SkipLaws.{unlisted-bound, length-skipped, content-at-skipped}
@@ -43,7 +54,8 @@ module _ (bad : List ℕ) (cs : List Content) (p q : ℕ) (f : Found bad cs p q)
   found-content = ap (contentAt cs) (f .is) ∙ sym (content-at-skipped bad cs p (f .left))
 
   pub found-get : (n : ℕ) → n ≡ 8256 → getAnswer cs q n ≡ getAnswer (skipped bad cs) p n
-  found-get n e = get-in cs q n e found-in ∙ ap (λ x. Ok (kindOf x)) found-content ∙ sym (get-in (skipped bad cs) p n e found-under)
+  found-get n e = get-in cs q n e found-in ∙ ap (λ x. Ok (kindOf x)) found-content
+      ∙ sym (get-in (skipped bad cs) p n e found-under)
 
   pub found-buffer : (buf : List ℕ) → length buf ≡ 8256 → getBuffer cs q buf ≡ getBuffer (skipped bad cs) p buf
   found-buffer buf e =
@@ -58,9 +70,11 @@ module _ (bad : List ℕ) (cs : List Content) (p q : ℕ) (f : Found bad cs p q)
   pub found-put-below : (bs : List ℕ) → length bs ≡ 8256 → putContents cs q bs ≡ putBelow bad cs p bs
   found-put-below bs e =
       put-in cs q bs e found-in ∙ ap (λ z. set cs z (block bs)) (f .is)
-      ∙ sym (ap (λ a. ifGranted a (set cs (unlisted bad p) (block bs)) cs) (judged-ok (length bs) (length cs - length bad) p e (f .left)))
+      ∙ sym (ap (λ a. ifGranted a (set cs (unlisted bad p) (block bs)) cs)
+      (judged-ok (length bs) (length cs - length bad) p e (f .left)))
 
   pub found-strike-below : strikeContents cs q ≡ strikeBelow bad cs p
   found-strike-below =
       strike-in cs q found-in ∙ ap (λ z. set cs z lost) (f .is)
-      ∙ sym (ap (λ a. ifGranted a (set cs (unlisted bad p) lost) cs) (judged-place-ok (length cs - length bad) p (f .left)))
+      ∙ sym (ap (λ a. ifGranted a (set cs (unlisted bad p) lost) cs)
+      (judged-place-ok (length cs - length bad) p (f .left)))

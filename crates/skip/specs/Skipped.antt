@@ -7,7 +7,7 @@
 --   unlisted bad p      place p, moved up over the bad places one by one
 --   skipped bad cs      the contents that are found so, as many as there are places more than bad ones
 --   putBelow, strikeBelow   the contents of the card below after a put or a strike above it, granted or refused
---   Skips-the-listed    for a lawful list the contents found so are those of the unlisted places, in order, and no others
+--   Skips-the-listed    for a lawful list these are the contents of the unlisted places, in order, and all that is left
 use Prim.Native.Nat.{ℕ, zero, suc, _+_, _-_}
 use mathlib.Core.Path.{_≡_}
 use mathlib.Core.List.{List, [], _∷_, map}

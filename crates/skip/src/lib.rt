@@ -54,7 +54,8 @@ impl<C: Card> SkipCard<C> {
         requires { ⌜ listAnswer (length (contents card)) (now list) ≡ Ok tt ⌝ }
         ensures card { λ r. ⌜ r .card ≡ card ⌝ }
         ensures list { λ r. ⌜ take (r .count) (r .table) ≡ now (list .entry) ⌝ }
-        ensures places { λ r. ⌜ skipped (take (r .count) (r .table)) (contents (r .card)) ≡ spared (now (list .entry)) (contents card) ⌝ }
+        ensures places { λ r. ⌜ skipped (take (r .count) (r .table)) (contents (r .card))
+            ≡ spared (now (list .entry)) (contents card) ⌝ }
     {
         let mut table = [0; 64];
         let count = list.len();
@@ -74,7 +75,8 @@ impl<C: Card> SkipCard<C> {
 pub impl<C: Card> Card for SkipCard<C> as SkipIsCard {
     ghost contents = { λ s. skipped (take (s .count) (s .table)) (C·Card .contents (s .card)) };
 
-    ghost whole = { λ s. skipped-whole (take (s .count) (s .table)) (C·Card .contents (s .card)) (C·Card .whole (s .card)) };
+    ghost whole = { λ s. skipped-whole (take (s .count) (s .table)) (C·Card .contents (s .card))
+        (C·Card .whole (s .card)) };
 
     fn places(&self) -> usize {
         self.left()
@@ -87,10 +89,18 @@ pub impl<C: Card> Card for SkipCard<C> as SkipIsCard {
     }
 
     fn put(&mut self, place: usize, block: &[u8]) -> Result<(), Refusal>
-        ensures answer { λ r. ⌜ told r ≡ putAnswer (skipped (take (now (self .entry) .count) (now (self .entry) .table)) (contents (now (self .entry) .card))) place (length (now (block .entry))) ⌝ }
-        ensures card { λ _. ⌜ skipped (take (now (self .exit) .count) (now (self .exit) .table)) (contents (now (self .exit) .card)) ≡ putContents (skipped (take (now (self .entry) .count) (now (self .entry) .table)) (contents (now (self .entry) .card))) place (now (block .entry)) ⌝ }
-        ensures under { λ _. ⌜ contents (now (self .exit) .card) ≡ putBelow (take (now (self .entry) .count) (now (self .entry) .table)) (contents (now (self .entry) .card)) place (now (block .entry)) ⌝ }
-        ensures list { λ _. ⌜ take (now (self .exit) .count) (now (self .exit) .table) ≡ take (now (self .entry) .count) (now (self .entry) .table) ⌝ }
+        ensures answer { λ r. ⌜ told r ≡ putAnswer
+            (skipped (take (now (self .entry) .count) (now (self .entry) .table))
+            (contents (now (self .entry) .card))) place (length (now (block .entry))) ⌝ }
+        ensures card { λ _. ⌜ skipped (take (now (self .exit) .count) (now (self .exit) .table))
+            (contents (now (self .exit) .card))
+            ≡ putContents (skipped (take (now (self .entry) .count) (now (self .entry) .table))
+            (contents (now (self .entry) .card))) place (now (block .entry)) ⌝ }
+        ensures under { λ _. ⌜ contents (now (self .exit) .card)
+            ≡ putBelow (take (now (self .entry) .count) (now (self .entry) .table))
+            (contents (now (self .entry) .card)) place (now (block .entry)) ⌝ }
+        ensures list { λ _. ⌜ take (now (self .exit) .count) (now (self .exit) .table)
+            ≡ take (now (self .entry) .count) (now (self .entry) .table) ⌝ }
     {
         judge_call(block.len(), place, self.left())?;
         let at = below(&self.table[0..self.count], place);
@@ -98,10 +108,18 @@ pub impl<C: Card> Card for SkipCard<C> as SkipIsCard {
     }
 
     fn strike(&mut self, place: usize) -> Result<(), Refusal>
-        ensures answer { λ r. ⌜ told r ≡ strikeAnswer (skipped (take (now (self .entry) .count) (now (self .entry) .table)) (contents (now (self .entry) .card))) place ⌝ }
-        ensures card { λ _. ⌜ skipped (take (now (self .exit) .count) (now (self .exit) .table)) (contents (now (self .exit) .card)) ≡ strikeContents (skipped (take (now (self .entry) .count) (now (self .entry) .table)) (contents (now (self .entry) .card))) place ⌝ }
-        ensures under { λ _. ⌜ contents (now (self .exit) .card) ≡ strikeBelow (take (now (self .entry) .count) (now (self .entry) .table)) (contents (now (self .entry) .card)) place ⌝ }
-        ensures list { λ _. ⌜ take (now (self .exit) .count) (now (self .exit) .table) ≡ take (now (self .entry) .count) (now (self .entry) .table) ⌝ }
+        ensures answer { λ r. ⌜ told r ≡ strikeAnswer
+            (skipped (take (now (self .entry) .count) (now (self .entry) .table))
+            (contents (now (self .entry) .card))) place ⌝ }
+        ensures card { λ _. ⌜ skipped (take (now (self .exit) .count) (now (self .exit) .table))
+            (contents (now (self .exit) .card))
+            ≡ strikeContents (skipped (take (now (self .entry) .count) (now (self .entry) .table))
+            (contents (now (self .entry) .card))) place ⌝ }
+        ensures under { λ _. ⌜ contents (now (self .exit) .card)
+            ≡ strikeBelow (take (now (self .entry) .count) (now (self .entry) .table))
+            (contents (now (self .entry) .card)) place ⌝ }
+        ensures list { λ _. ⌜ take (now (self .exit) .count) (now (self .exit) .table)
+            ≡ take (now (self .entry) .count) (now (self .entry) .table) ⌝ }
     {
         judge_place(place, self.left())?;
         let at = below(&self.table[0..self.count], place);

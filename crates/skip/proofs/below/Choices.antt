@@ -7,4 +7,5 @@ use Rattle.skip.proofs.below.Given as given
 -- the bad places that are left give the answer
 abbrev pub Inv-loop-bad : given.InvT-loop-bad
 Inv-loop-bad l =
-    (unlisted (drop (l .bad-index) (l .list)) (l .at) ≡ unlisted (l .list) (l .place)) × (l .at ≤ l .place + l .bad-index)
+    (unlisted (drop (l .bad-index) (l .list)) (l .at) ≡ unlisted (l .list) (l .place))
+    × (l .at ≤ l .place + l .bad-index)

@@ -7,4 +7,5 @@ use Rattle.runs.proofs.putting.lay_copies.Given as given
 -- the first i of the blocks are laid
 abbrev pub Inv-loop-i : given.InvT-loop-i
 Inv-loop-i g l =
-    g .C·Card .contents (l .card) ≡ paste (g .C·Card .contents (l .entry .card)) (l .start) (replicate (l .count) (block (l .body))) (l .i)
+    g .C·Card .contents (l .card) ≡ paste (g .C·Card .contents (l .entry .card)) (l .start)
+    (replicate (l .count) (block (l .body))) (l .i)

@@ -6,4 +6,5 @@ use Rattle.runs.proofs.putting.lay_up.Given as given
 -- the first i of the blocks are laid
 abbrev pub Inv-loop-i : given.InvT-loop-i
 Inv-loop-i g l =
-    g .C·Card .contents (l .card) ≡ paste (g .C·Card .contents (l .entry .card)) (l .start) (blocks (l .bytes) (l .count)) (l .i)
+    g .C·Card .contents (l .card) ≡ paste (g .C·Card .contents (l .entry .card)) (l .start)
+    (blocks (l .bytes) (l .count)) (l .i)

@@ -15,9 +15,11 @@ ghost-result g c =
 pub returns : need.returns
 returns g c =
     let l = lawful-from-granted (length (g .C·Card .contents (c .args .card))) (c .args .list .now) (c .pre) in
-    let t = take-at (c .copy-from-slice .last .self) _ (length (c .args .list .now)) (omega arith) ∙ c .copy-from-slice .ensures .after in
+    let t = take-at (c .copy-from-slice .last .self) _ (length (c .args .list .now)) (omega arith)
+    ∙ c .copy-from-slice .ensures .after in
     record {
       card = refl;
       list = t;
-      places = ap (λ z. skipped z (g .C·Card .contents (c .args .card))) t ∙ skipped-is-spared (c .args .list .now) (g .C·Card .contents (c .args .card)) l;
+      places = ap (λ z. skipped z (g .C·Card .contents (c .args .card))) t
+          ∙ skipped-is-spared (c .args .list .now) (g .C·Card .contents (c .args .card)) l;
     }

@@ -8,4 +8,5 @@ use Rattle.skip.proofs.list.judge_entries.Given as given
 -- the entries from i on decide
 abbrev pub Inv-loop-i : given.InvT-loop-i
 Inv-loop-i l =
-    judgedAt (l .places) (l .list) (counting (l .i) (length (l .list) - l .i)) ≡ judgedAt (l .places) (l .list) (counting 0 (length (l .list)))
+    judgedAt (l .places) (l .list) (counting (l .i) (length (l .list) - l .i))
+    ≡ judgedAt (l .places) (l .list) (counting 0 (length (l .list)))

@@ -12,5 +12,12 @@ returns-in-Break-judge-call c =
 pub returns : need.returns
 returns c =
     let n = length-rows (c .args .self .now .mem .now) in
-    let m : c .write-row .last .mem ≡ putMemory (c .args .self .now .mem .now) (c .args .place) (c .args .block .now) = search needs in
-    record { answer = search needs; card = ap rows m ∙ rows-put (c .args .self .now .mem .now) (c .args .place) (c .args .block .now); memory = m; held = refl }
+    let m : c .write-row .last .mem ≡ putMemory (c .args .self .now .mem .now) (c .args .place)
+    (c .args .block .now) = search needs in
+    record {
+      answer = search needs;
+      card = ap rows m
+          ∙ rows-put (c .args .self .now .mem .now) (c .args .place) (c .args .block .now);
+      memory = m;
+      held = refl;
+    }

@@ -13,4 +13,10 @@ pub returns : need.returns
 returns c =
     let n = length-rows (c .args .self .now .mem .now) in
     let m : c .strike-row .last .mem ≡ strikeMemory (c .args .self .now .mem .now) (c .args .place) = search needs in
-    record { answer = search needs; card = ap rows m ∙ rows-strike (c .args .self .now .mem .now) (c .args .place); memory = m; held = refl }
+    record {
+      answer = search needs;
+      card = ap rows m
+          ∙ rows-strike (c .args .self .now .mem .now) (c .args .place);
+      memory = m;
+      held = refl;
+    }

@@ -14,7 +14,8 @@ returns-in-Break-judge-call c =
 pub returns-in-0 : need.returns-in-0
 returns-in-0 c =
     let n = length-dealt (memories (c .args .self .now)) in
-    let m : c .write-row .last .mem ∷ c .args .self .now .second .now ∷ c .args .self .now .third .now ∷ c .args .self .now .fourth .now ∷ []
+    let m : c .write-row .last .mem ∷ c .args .self .now .second .now ∷ c .args .self .now .third .now ∷ c .args
+    .self .now .fourth .now ∷ []
     ≡ putMemories (memories (c .args .self .now)) (c .args .place) (c .args .block .now) = search needs in
     record {
       answer = search needs;
@@ -26,7 +27,8 @@ returns-in-0 c =
 pub returns-in-1 : need.returns-in-1
 returns-in-1 c =
     let n = length-dealt (memories (c .args .self .now)) in
-    let m : c .args .self .now .first .now ∷ c .write-row-in-1 .last .mem ∷ c .args .self .now .third .now ∷ c .args .self .now .fourth .now ∷ []
+    let m : c .args .self .now .first .now ∷ c .write-row-in-1 .last .mem ∷ c .args .self .now .third .now ∷ c .args
+    .self .now .fourth .now ∷ []
     ≡ putMemories (memories (c .args .self .now)) (c .args .place) (c .args .block .now) = search needs in
     record {
       answer = search needs;
@@ -38,7 +40,8 @@ returns-in-1 c =
 pub returns-in-2 : need.returns-in-2
 returns-in-2 c =
     let n = length-dealt (memories (c .args .self .now)) in
-    let m : c .args .self .now .first .now ∷ c .args .self .now .second .now ∷ c .write-row-in-2 .last .mem ∷ c .args .self .now .fourth .now ∷ []
+    let m : c .args .self .now .first .now ∷ c .args .self .now .second .now ∷ c .write-row-in-2 .last .mem ∷ c
+    .args .self .now .fourth .now ∷ []
     ≡ putMemories (memories (c .args .self .now)) (c .args .place) (c .args .block .now) = search needs in
     record {
       answer = search needs;
@@ -50,7 +53,8 @@ returns-in-2 c =
 pub returns-in-rest : need.returns-in-rest
 returns-in-rest c =
     let n = length-dealt (memories (c .args .self .now)) in
-    let m : c .args .self .now .first .now ∷ c .args .self .now .second .now ∷ c .args .self .now .third .now ∷ c .write-row-in-rest .last .mem ∷ []
+    let m : c .args .self .now .first .now ∷ c .args .self .now .second .now ∷ c .args .self .now .third .now ∷ c
+    .write-row-in-rest .last .mem ∷ []
     ≡ putMemories (memories (c .args .self .now)) (c .args .place) (c .args .block .now) = search needs in
     record {
       answer = search needs;
