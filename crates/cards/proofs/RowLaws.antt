@@ -63,6 +63,14 @@ row-other mem after p i e ne h =
     let w = part-same after mem (i * rowLen + 2) blockLen e (λ k a b. h k (out k (omega arith) (omega arith))) in
     cc
 
+-- no byte changes but the two of the mark
+pub struck-rest : (mem : List ℕ) (p k : ℕ) → p < rowCount mem → (k < p * rowLen) ⊎ (p * rowLen + 2 ≤ k)
+    → getD (struck mem p) k 0 ≡ getD mem k 0
+struck-rest mem p k l =
+    let f : p * rowLen + rowLen ≤ length mem = omega arith in
+    ⊎-elim (λ u. laid-below mem (p * rowLen) struckMark k 0 (omega arith) u)
+    (λ v. laid-above mem (p * rowLen) struckMark k 0 (omega arith) v)
+
 pub struck-changes : (mem : List ℕ) (p : ℕ) → p < rowCount mem → Changes mem (struck mem p) p lost
 unfolding rowAt
 struck-changes mem p l =
@@ -75,35 +83,70 @@ struck-changes mem p l =
       size = e;
       here = ap (λ z. contentOf (markKind z) (take blockLen (drop (p * rowLen + 2) (struck mem p)))) m;
       there = λ i ne. row-other mem (struck mem p) p i e ne
-          (λ k. ⊎-elim (λ u. laid-below mem (p * rowLen) struckMark k 0 (omega arith) u)
-          (λ v. laid-above mem (p * rowLen) struckMark k 0 (omega arith) (omega arith)));
+          (λ k. ⊎-elim (λ u. struck-rest mem p k l (inl u)) (λ v. struck-rest mem p k l (inr (omega arith))));
     }
 
-pub stored-changes : (mem bs : List ℕ) (p : ℕ) → p < rowCount mem → length bs ≡ blockLen
-    → Changes mem (stored mem p bs) p (block bs)
-unfolding rowAt
-stored-changes mem bs p l eb =
-    let f : p * rowLen + rowLen ≤ length mem = omega arith in
-    let one : List ℕ = laid mem (p * rowLen) blockMark in
-    let e1 : length one ≡ length mem = length-laid mem (p * rowLen) blockMark (omega arith) in
-    let e2 : length (stored mem p bs) ≡ length one = length-laid one (p * rowLen + 2) bs (omega arith) in
-    let m : take 2 (drop (p * rowLen) (stored mem p bs)) ≡ blockMark
-    = part-is (stored mem p bs) blockMark (p * rowLen) 2 refl (omega arith)
-    (λ k b. laid-below one (p * rowLen + 2) bs (p * rowLen + k) 0 (omega arith) (omega arith)
-    ∙ laid-in mem (p * rowLen) blockMark k 0 (omega arith) b) in
-    let w : take blockLen (drop (p * rowLen + 2) (stored mem p bs)) ≡ bs
-    = part-is (stored mem p bs) bs (p * rowLen + 2) blockLen eb (omega arith)
-    (λ k b. laid-in one (p * rowLen + 2) bs k 0 (omega arith) (omega arith)) in
-    record {
-      size = e2 ∙ e1;
-      here = ap (λ z. contentOf (markKind z) (take blockLen (drop (p * rowLen + 2) (stored mem p bs)))) m ∙ ap block w;
-      there = λ i ne. row-other mem (stored mem p bs) p i (e2 ∙ e1) ne
-          (λ k. ⊎-elim
-          (λ u. laid-below one (p * rowLen + 2) bs k 0 (omega arith) (omega arith)
-          ∙ laid-below mem (p * rowLen) blockMark k 0 (omega arith) u)
-          (λ v. laid-above one (p * rowLen + 2) bs k 0 (omega arith) (omega arith)
-          ∙ laid-above mem (p * rowLen) blockMark k 0 (omega arith) (omega arith)));
-    }
+-- the mark first, and then the block: no byte changes but those of the row
+module _ (mem bs : List ℕ) (p : ℕ) (l : p < rowCount mem) (eb : length bs ≡ blockLen) where
+  row-fits : p * rowLen + rowLen ≤ length mem
+  row-fits = omega arith
+
+  with-mark : List ℕ
+  with-mark = laid mem (p * rowLen) blockMark
+
+  length-with-mark : length with-mark ≡ length mem
+  unfolding with-mark
+  length-with-mark = let f = row-fits in length-laid mem (p * rowLen) blockMark (omega arith)
+
+  length-stored : length (stored mem p bs) ≡ length mem
+  unfolding with-mark
+  length-stored =
+      let f = row-fits in
+      let e = length-with-mark in
+      length-laid with-mark (p * rowLen + 2) bs (omega arith) ∙ e
+
+  pub stored-rest : (k : ℕ) → (k < p * rowLen) ⊎ (p * rowLen + rowLen ≤ k) → getD (stored mem p bs) k 0 ≡ getD mem k 0
+  unfolding with-mark
+  stored-rest k =
+      let f = row-fits in
+      let e = length-with-mark in
+      ⊎-elim
+      (λ u.
+      laid-below with-mark (p * rowLen + 2) bs k 0 (omega arith) (omega arith)
+      ∙ laid-below mem (p * rowLen) blockMark k 0 (omega arith) u)
+      (λ v.
+      laid-above with-mark (p * rowLen + 2) bs k 0 (omega arith) (omega arith)
+      ∙ laid-above mem (p * rowLen) blockMark k 0 (omega arith) (omega arith))
+
+  stored-mark : take 2 (drop (p * rowLen) (stored mem p bs)) ≡ blockMark
+  unfolding with-mark
+  stored-mark =
+      let f = row-fits in
+      let e = length-with-mark in
+      let n = length-stored in
+      part-is (stored mem p bs) blockMark (p * rowLen) 2 refl (omega arith)
+      (λ k b.
+      laid-below with-mark (p * rowLen + 2) bs (p * rowLen + k) 0 (omega arith) (omega arith)
+      ∙ laid-in mem (p * rowLen) blockMark k 0 (omega arith) b)
+
+  stored-block : take blockLen (drop (p * rowLen + 2) (stored mem p bs)) ≡ bs
+  unfolding with-mark
+  stored-block =
+      let f = row-fits in
+      let e = length-with-mark in
+      let n = length-stored in
+      part-is (stored mem p bs) bs (p * rowLen + 2) blockLen eb (omega arith)
+      (λ k b. laid-in with-mark (p * rowLen + 2) bs k 0 (omega arith) (omega arith))
+
+  pub stored-changes : Changes mem (stored mem p bs) p (block bs)
+  unfolding rowAt
+  stored-changes =
+      record {
+        size = length-stored;
+        here = ap (λ z. contentOf (markKind z) (take blockLen (drop (p * rowLen + 2) (stored mem p bs)))) stored-mark
+            ∙ ap block stored-block;
+        there = λ i ne. row-other mem (stored mem p bs) p i length-stored ne stored-rest;
+      }
 
 pub rows-changed : (mem after : List ℕ) (p : ℕ) (x : Content) → p < rowCount mem → Changes mem after p x
     → rows after ≡ set (rows mem) p x

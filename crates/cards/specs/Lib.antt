@@ -4,3 +4,4 @@ pub mod Rows
 pub mod Tracks
 pub mod Memories
 pub mod Whole
+pub mod Laws

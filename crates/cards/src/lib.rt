@@ -1,4 +1,5 @@
 // A card is all that the layers above know of a medium: places that each hold a content.
+mod laws;
 mod rows;
 mod strip;
 mod tracks;
@@ -10,6 +11,8 @@ ghost use Rattle.refusal.specs.Tells.{told};
 ghost use Rattle.cards.specs.Content.{Content, Whole};
 ghost use Rattle.cards.specs.Calls.{judged, judgedPlace};
 ghost use Rattle.cards.specs.Calls.{getAnswer, getBuffer, putAnswer, putContents, strikeAnswer, strikeContents};
+pub use laws::calls_stand;
+pub use laws::memories_stand;
 use refusal::Refusal;
 pub use strip::StripCard;
 pub use strip::StripIsCard;
