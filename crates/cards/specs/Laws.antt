@@ -1,8 +1,8 @@
 -- What a put and a strike leave alone, on any card and in a memory. Assumes nothing.
 --
 --   OnePlace cs after p   the places are as many as before, and every place but p holds what it held
---   Changes-one-place     a put or a strike changes its own place at most, and one that is granted changes it as it should
---   Keeps-the-rest        a put changes no byte of a memory but those of its row, and a strike none but those of its mark
+--   Changes-one-place     a put or a strike changes its own place at most; one that is granted changes it as it should
+--   Keeps-the-rest        a put changes no byte of a memory but those of its row; a strike none but those of its mark
 use Prim.Native.Nat.{ℕ, _+_, _*_, _≤_, _<_}
 use mathlib.Core.Path.{_≡_}
 use mathlib.Core.Logic.{_⊎_}

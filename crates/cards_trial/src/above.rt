@@ -1,13 +1,13 @@
 // What stands above a card and is tried: skip cards on it, their lists, and runs of its places.
 ghost use mathlib.Core.Path.{_≡_};
 ghost use lib.ListN.{length};
+use crate::comparing::Tally;
+use crate::comparing::compare_all;
 use crate::model::Held;
 use crate::model::Model;
 use crate::model::all_are;
 use crate::model::fill_block;
 use crate::model::is_copied;
-use crate::script::Tally;
-use crate::script::compare_all;
 use crate::script::put_each;
 use crate::script::run;
 use cards::Card;

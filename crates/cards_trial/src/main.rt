@@ -1,5 +1,6 @@
 // Tries every card against a plain model: the same script on each, everything compared after each step.
 mod above;
+mod comparing;
 mod lent;
 mod model;
 mod script;

@@ -11,7 +11,8 @@ use Rattle.cards.specs.Laws.{OnePlace}
 use Rattle.cards.proofs.AnswerLaws.{judged-within, judged-place}
 use Rattle.cards.proofs.laws.calls_stand.Needs as need
 
-one-place : (cs : List Content) (p : ℕ) (x : Content) (a : Answer (Unit {0})) → OnePlace cs (ifGranted a (set cs p x) cs) p
+one-place : (cs : List Content) (p : ℕ) (x : Content) (a : Answer (Unit {0}))
+    → OnePlace cs (ifGranted a (set cs p x) cs) p
 one-place cs p x (Ok tt) = record { count = length-set cs p x; others = λ q ne. getD-set-other cs p q x lost ne }
 one-place cs p x (Err e) = record { count = refl; others = λ q ne. refl }
 
