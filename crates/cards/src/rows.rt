@@ -2,19 +2,20 @@
 ghost use mathlib.Core.Path.{_≡_};
 ghost use Prim.Native.Nat.{_+_, _≤_, _<_, _/_};
 ghost use lib.ListN.{length};
-ghost use Rattle.cards.specs.Content.{bytesOf};
+ghost use Rattle.cards.specs.Content.{blockLen, bytesOf};
 ghost use Rattle.cards.specs.Calls.{kindOf};
-ghost use Rattle.cards.specs.Rows.{markKind, rowAt, rowCount, laid, stored, struck};
+ghost use Rattle.cards.specs.Rows.{rowLen, markKind, rowAt, rowCount, laid, stored, struck};
 use crate::BLOCK_LEN;
 use crate::Kind;
 
+// The bytes of a mark, and those of a row.
 const MARK_LEN: usize = 2;
 
-const ROW_LEN: usize = 8258;
+const ROW_LEN: usize = MARK_LEN + BLOCK_LEN;
 
 // How many whole rows a memory of so many bytes has.
 pub fn row_count(len: usize) -> usize
-    ensures { λ r. ⌜ r ≡ len / 8258 ⌝ }
+    ensures { λ r. ⌜ r ≡ len / rowLen ⌝ }
 {
     len / ROW_LEN
 }
@@ -34,7 +35,7 @@ fn read_mark(mark: &[u8]) -> Kind
 // Answers what a row holds, and copies its block, or zeros.
 pub fn read_row(mem: &[u8], row: usize, buf: &mut [u8]) -> Kind
     requires within { ⌜ row < rowCount (now mem) ⌝ }
-    requires sized { ⌜ length (now buf) ≡ 8256 ⌝ }
+    requires sized { ⌜ length (now buf) ≡ blockLen ⌝ }
     ensures kind { λ r. ⌜ r ≡ kindOf (rowAt (now (mem .entry)) row) ⌝ }
     ensures buffer { λ _. ⌜ now (buf .exit) ≡ bytesOf (rowAt (now (mem .entry)) row) ⌝ }
 {
@@ -58,7 +59,7 @@ fn lay(mem: &mut [u8], at: usize, bytes: &[u8])
 // Writes a block to a row, behind the mark that says so.
 pub fn write_row(mem: &mut [u8], row: usize, block: &[u8])
     requires within { ⌜ row < rowCount (now mem) ⌝ }
-    requires sized { ⌜ length (now block) ≡ 8256 ⌝ }
+    requires sized { ⌜ length (now block) ≡ blockLen ⌝ }
     ensures { λ _. ⌜ now (mem .exit) ≡ stored (now (mem .entry)) row (now (block .entry)) ⌝ }
 {
     let at = row * ROW_LEN;

@@ -6,6 +6,7 @@ ghost use lib.ListN.{length, getD};
 ghost use denote.Ref.{now, name};
 ghost use Rattle.refusal.specs.Tells.{told};
 ghost use Rattle.cards.specs.Calls.{getAnswer, getBuffer, putAnswer, putContents, strikeAnswer, strikeContents};
+ghost use Rattle.cards.specs.Rows.{rowLen};
 ghost use Rattle.cards.specs.Tracks.{shortest, dealt, memoryOf, putMemories, strikeMemories};
 ghost use Rattle.cards.specs.Memories.{memories};
 ghost use Rattle.cards.specs.Whole.{dealt-whole};
@@ -65,7 +66,7 @@ impl<'a> FourTrackCard<'a> {
     // The rows that all four memories have.
     fn rows(&self) -> usize
         ensures least { λ r. ⌜ r ≡ shortest (memories (now (self .entry))) ⌝ }
-        ensures small { λ r. ⌜ r * 8258 < 2 ^ 64 ⌝ }
+        ensures small { λ r. ⌜ r * rowLen < 2 ^ 64 ⌝ }
     {
         let front = row_count(self.first.len()).min(row_count(self.second.len()));
         let back = row_count(self.third.len()).min(row_count(self.fourth.len()));
