@@ -1,0 +1,5 @@
+pub mod AnswerLaws
+pub mod CountedLaws
+pub mod LaidLaws
+pub mod RowLaws
+pub mod TrackLaws

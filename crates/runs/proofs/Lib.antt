@@ -1,0 +1,4 @@
+pub mod BlockLaws
+pub mod UpLaws
+pub mod DownLaws
+pub mod GetLaws

@@ -1,0 +1,5 @@
+use Rattle.skip.proofs.ListLaws.{grants-lawful-lists}
+use Rattle.skip.proofs.list.judgement_stands.Needs as need
+
+pub returns : need.returns
+returns c = grants-lawful-lists

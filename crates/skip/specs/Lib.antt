@@ -1,0 +1,3 @@
+pub mod BadPlaces
+pub mod Skipped
+pub mod Whole
