@@ -1,0 +1,9 @@
+pub mod Products
+pub mod Linear
+pub mod Computed
+pub mod Inverses
+pub mod TwoFields
+pub mod Totals
+pub mod Vandermonde
+pub mod Powers
+pub mod WordSteps

@@ -1,0 +1,39 @@
+// What a field of words is, and that two-byte words and bytes are fields by one argument.
+ghost use mathlib.Core.Path.{_≡_};
+ghost use Prim.Native.Nat.{ℕ, _≤_};
+ghost use Rattle.field.specs.Polynomials.{product as modulo, inverse as opposite};
+ghost use Rattle.field.specs.Laws.{FieldLaws, Powers-differ};
+
+// A field whose elements are the words of `width` bits, at most sixteen; its sum is exclusive-or.
+pub trait Field {
+    ghost wide: { Self → ℕ };
+
+    ghost times: { Self → ℕ → ℕ → ℕ };
+
+    ghost over: { Self → ℕ → ℕ };
+
+    law narrow: { (f : Self) → (2 ≤ wide f) × (wide f ≤ 16) };
+
+    law lawful: { (f : Self) → FieldLaws (wide f) (times f) (over f) };
+
+    // The twenty positions of a column get different powers of 2.
+    law apart: { (f : Self) → Powers-differ (times f) 2 20 };
+
+    fn width(&self) -> u32
+        ensures { λ r. ⌜ r ≡ wide (now (self .entry)) ⌝ };
+
+    fn product(&self, a: u16, b: u16) -> u16
+        ensures { λ r. ⌜ r ≡ times (now (self .entry)) a b ⌝ };
+
+    fn inverse(&self, a: u16) -> u16
+        ensures { λ r. ⌜ r ≡ over (now (self .entry)) a ⌝ };
+}
+
+// The laws of the two-byte field and of the byte field: a theorem only.
+pub fn fields_stand() -> u8
+    ensures words { λ _. ⌜ FieldLaws 16 (modulo 15 0x1100B) (opposite 15 0x1100B) ⌝ }
+    ensures bytes { λ _. ⌜ FieldLaws 8 (modulo 7 0x11D) (opposite 7 0x11D) ⌝ }
+    ensures powers { λ _. ⌜ Powers-differ (modulo 15 0x1100B) 2 20 ⌝ ∗ ⌜ Powers-differ (modulo 7 0x11D) 2 20 ⌝ }
+{
+    0
+}
