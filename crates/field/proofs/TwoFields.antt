@@ -60,3 +60,7 @@ differ8 = powers-differ (product 7 0x11D) (same-at (λ i. place (product 7 0x11D
 pub word-field : FieldLaws 16 wordProduct wordInverse
 unfolding wordProduct wordInverse
 word-field = field16
+
+pub word-differ : Powers-differ wordProduct 2 20
+unfolding wordProduct
+word-differ = differ16

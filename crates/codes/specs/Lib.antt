@@ -1,0 +1,5 @@
+pub mod Code
+pub mod Rebuild
+pub mod TwoCodes
+pub mod Filling
+pub mod Groups
