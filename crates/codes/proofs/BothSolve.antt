@@ -14,7 +14,7 @@ use Rattle.field.proofs.Powers.{power-none}
 use Rattle.field.proofs.TwoFields.{word-field}
 use Rattle.codes.specs.Code.{AllWords, Code, Lawful}
 use Rattle.codes.specs.TwoCodes.{sum, Sums-are-zero, bySums, parity, parityWord, fourCheck}
-use Rattle.codes.specs.Groups.{nextWord}
+use Rattle.check_groups.specs.Groups.{nextWord}
 use Rattle.codes.proofs.Agreeing.{all-words, words-small}
 use Rattle.codes.proofs.Grouping.{Carried, carried-none, carried-more, next-lt, tail, total-add, pw-lt}
 use Rattle.codes.proofs.Solutions.{Solves, solution}

@@ -15,7 +15,8 @@ use Rattle.field.proofs.Totals.{total-ext, total-xor, total-none, total-lt}
 use Rattle.field.proofs.Vandermonde.{total-mul, xor-l, zero-r}
 use Rattle.field.proofs.Powers.{power-lt, power-add}
 use Rattle.field.proofs.TwoFields.{word-field}
-use Rattle.codes.specs.Groups.{numbers, number, nextWord}
+use Rattle.check_groups.proofs.LanesNext.{number-lt}
+use Rattle.check_groups.specs.Groups.{numbers, number, nextWord}
 
 pub pw-lt : (n : ℕ) → power wordProduct 2 n < 2 ^ 16
 pw-lt = power-lt 16 wordProduct wordInverse word-field (lit< tt) 2 (lit< tt)
@@ -41,17 +42,6 @@ total-mul-left g v n p h =
     ∙ total-ext _ _ n (λ i l. word-field .mul-comm v (g i) p (h i l))
 
 -- ---- the numbers of a group
-
-number-lt : (p q : ℕ) → p < 4 → q < 4 → number p q < 2 ^ 16
-unfolding number numbers
-number-lt p q hp hq = subst (λ t. t < 2 ^ 16) (at p hp) (mod-lt (number p q) (pow-pos 16))
-  where
-    at : (p : ℕ) → p < 4 → number p q % 2 ^ 16 ≡ number p q
-    at zero h = same-at (λ q. number 0 q % 2 ^ 16) (number 0) 4 tt q hq
-    at (suc zero) h = same-at (λ q. number 1 q % 2 ^ 16) (number 1) 4 tt q hq
-    at (suc (suc zero)) h = same-at (λ q. number 2 q % 2 ^ 16) (number 2) 4 tt q hq
-    at (suc (suc (suc zero))) h = same-at (λ q. number 3 q % 2 ^ 16) (number 3) 4 tt q hq
-    at (suc (suc (suc (suc p)))) h = absurd (omega arith)
 
 -- in each of the four sums a word counts as much as what it adds to the check words behind its group
 number-sums : (j : ℕ) → j < 4 → (q : ℕ) → q < 4
@@ -167,14 +157,3 @@ carried-more w n s g s′ hw eg l e c = record {
 
     ends : (j : ℕ) → tail (n + 4) j (nextWord (λ q. getD s q 0) (λ q. getD g q 0)) ≡ tail (n + 4) j (λ q. getD s′ q 0)
     ends j = unfold tail in total-ext _ _ 4 (λ p k. ap (wordProduct _) (sym (e p k)))
-
--- ---- as the program has it
-
-abbrev pub summed : List ℕ → List ℕ → List ℕ
-summed s g =
-    bitXor (getD s 0 0) (getD g 0 0) ∷ bitXor (getD s 1 0) (getD g 1 0) ∷ bitXor (getD s 2 0) (getD g 2 0) ∷ bitXor (getD s 3 0) (getD g 3 0) ∷ []
-
-pub next-at : (p : ℕ) (s g : List ℕ)
-    → total (λ i. wordProduct (getD (numbers p) i 0) (getD (summed s g) i 0)) 4 ≡ nextWord (λ q. getD s q 0) (λ q. getD g q 0) p
-unfolding nextWord number summed total
-next-at p s g = refl

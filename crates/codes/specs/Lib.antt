@@ -2,4 +2,3 @@ pub mod Code
 pub mod Rebuild
 pub mod TwoCodes
 pub mod Filling
-pub mod Groups

@@ -7,11 +7,11 @@ ghost use lib.ListN.{getD};
 ghost use Rattle.field.specs.Polynomials.{wordProduct};
 ghost use Rattle.field.specs.Sums.{total, weighted};
 ghost use Rattle.codes.specs.TwoCodes.{fourCheck};
-ghost use Rattle.codes.specs.Groups.{nextWord};
 use crate::column::blanked;
 use crate::column::front;
 use crate::meaning::CheckCode;
 use crate::solve::filled_in;
+use check_groups::next;
 use field::Field;
 use field::TwoByte;
 use field::TwoByteField;
@@ -76,33 +76,6 @@ fn group(words: [u16; 16], at: usize) -> [u16; 4]
     ensures { λ r. ⌜ ((q : ℕ) → q < 4 → getD r q 0 ≡ getD words (at + q) 0) ⌝ }
 {
     [words[at], words[at + 1], words[at + 2], words[at + 3]]
-}
-
-// The numbers by which a group of four words goes into each of its check words.
-const ROW_0: [u16; 4] = [0x3FD1, 0xA20D, 0x6242, 0xAA05];
-
-const ROW_1: [u16; 4] = [0x522B, 0xD219, 0xA1B4, 0x8085];
-
-const ROW_2: [u16; 4] = [0xAFB4, 0xC218, 0xEF9E, 0x7343];
-
-const ROW_3: [u16; 4] = [0xC24F, 0xB20D, 0x2C69, 0x59C2];
-
-// The check words of what came before and this group.
-fn next(state: [u16; 4], group: [u16; 4]) -> [u16; 4]
-    ensures { λ r. ⌜ ((p : ℕ) → p < 4 → getD r p 0 ≡ nextWord (λ q. getD state q 0) (λ q. getD group q 0) p) ⌝ }
-{
-    let sum = [
-        state[0] ^ group[0],
-        state[1] ^ group[1],
-        state[2] ^ group[2],
-        state[3] ^ group[3],
-    ];
-    [
-        combined(ROW_0, sum),
-        combined(ROW_1, sum),
-        combined(ROW_2, sum),
-        combined(ROW_3, sum),
-    ]
 }
 
 // 0002h to the powers of j times 16 to 19, for j from 0 to 3.

@@ -1,8 +1,10 @@
 -- The check words of the four-check code taken group by group, four words each. Assumes nothing.
 --
---   number p q        by what word q of a group goes into check word p behind it
+--   numbers p         by what each word of a group goes into check word p behind it
+--   number p q        by what word q of a group does
 --   nextWord s g p    check word p behind a group g, if the check words before it are s
-use Prim.Native.Nat.{ℕ, zero, suc}
+--   four a b c d x    the products of x with four numbers, in one number of sixteen bits each
+use Prim.Native.Nat.{ℕ, zero, suc, _+_, _*_, _^_}
 use mathlib.Core.List.{List, [], _∷_}
 use lib.Bits.{bitXor}
 use lib.ListN.{getD}
@@ -20,3 +22,6 @@ number p q = getD (numbers p) q 0
 
 unfoldable pub nextWord : (ℕ → ℕ) → (ℕ → ℕ) → ℕ → ℕ
 nextWord s g p = total (λ q. wordProduct (number p q) (bitXor (s q) (g q))) 4
+
+abbrev pub four : ℕ → ℕ → ℕ → ℕ → ℕ → ℕ
+four a b c d x = wordProduct a x + wordProduct b x * 2 ^ 16 + wordProduct c x * 2 ^ 32 + wordProduct d x * 2 ^ 48
