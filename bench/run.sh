@@ -4,12 +4,12 @@ set -euo pipefail
 here=$(cd "$(dirname "$0")" && pwd)
 build=${1:-$(mktemp -d)}
 mkdir -p "$build/crates/codes_bench/src"
-for crate in $(sed -n 's/^codes: *//p' "$here/../crates.txt") codes $(sed -n 's/^field: *//p' "$here/../crates.txt"); do
+for crate in refusal field check_groups codes; do
     mkdir -p "$build/crates/$crate"
     cp -ru "$here/../crates/$crate/src" "$here/../crates/$crate/specs" "$here/../crates/$crate/proofs" "$build/crates/$crate/"
 done
 cp -u "$here/wrap.txt" "$build/crates/codes_bench/src/lib.rt"
-grep -E "^(refusal|field|codes)[a-z_]*:|^word_[a-z_]*:" "$here/../crates.txt" | grep -v trial > "$build/crates.txt"
+printf "refusal:\nfield:\ncheck_groups: field\ncodes: refusal field check_groups\n" > "$build/crates.txt"
 echo "codes_bench: codes" >> "$build/crates.txt"
 cd "$build"
 rt staticlib codes_bench

@@ -2,9 +2,9 @@
 use mathlib.Core.Path.{_≡_, refl, sym, _∙_, ap}
 use mathlib.Core.List.{List}
 use mathlib.Core.Bool.{Bool, true, false, cond}
-use mathlib.Core.Logic.{_≢_}
+use mathlib.Core.Logic.{_≢_, _⊎_, inl, inr}
 use Prim.Native.Nat.{ℕ, zero, suc, _+_, _<_, _≤_}
-use native.Mathlib.Nat.{add-zero}
+use native.Mathlib.Nat.{add-zero, eq-or-lt-of-le, le-of-suc-le-suc}
 use native.Mathlib.Numerals.{add-one}
 use native.Mathlib.Omega.{arith}
 use native.Mathlib.Decide.{ℕ-discrete}
@@ -66,3 +66,15 @@ blank-skip column ms i out b e = record {
   ];
   rest = λ k p. b .rest k (omega arith);
 }
+
+pub none-missing : (ms : List Bool) (n : ℕ) → missingCount ms n ≡ 0 → (i : ℕ) → i < n → getD ms i false ≡ false
+unfolding missingCount
+none-missing ms zero z i h = absurd (omega arith)
+none-missing ms (suc n) z i h = elim (eq-or-lt-of-le (le-of-suc-le-suc h)) [
+  | inl e ↦ ap (λ k. getD ms k false) e ∙ off (getD ms n false) (omega arith)
+  | inr l ↦ none-missing ms n (omega arith) i l
+]
+  where
+    off : (b : Bool) → cond {A = ℕ} b 1 0 ≡ 0 → b ≡ false
+    off true e = absurd (omega arith)
+    off false e = refl

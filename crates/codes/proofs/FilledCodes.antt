@@ -1,16 +1,14 @@
 -- A column filled by its sums is filled for a code whose check words make those sums zero. Assumes nothing.
 use mathlib.Core.Path.{_≡_, refl, sym, _∙_, ap}
-use mathlib.Core.List.{List, [], _∷_}
+use mathlib.Core.List.{List}
 use mathlib.Core.Bool.{Bool}
 use Prim.Native.Nat.{ℕ, zero, suc, _+_, _-_, _<_, _≤_}
 use native.Mathlib.Omega.{arith}
 use lib.ListN.{length, getD, take, drop, replicate}
 use Rattle.std.proofs.shelf.Lists.{ext-getD, getD-take, getD-drop, length-take-le, length-drop}
-use Rattle.field.specs.Polynomials.{double, times, product, wordProduct}
-use Rattle.field.specs.Sums.{power}
-use Rattle.field.proofs.Computed.{same-at}
+use Rattle.field.specs.Polynomials.{wordProduct}
 use Rattle.codes.specs.Code.{Code}
-use Rattle.codes.specs.Filling.{Blanked, Filled, FilledBySums, Powers}
+use Rattle.codes.specs.Filling.{Blanked, Filled, FilledBySums}
 use Rattle.codes.proofs.Blanking.{zeros-at, zeros-long}
 use Rattle.codes.proofs.Solutions.{Solves, right-vanishes}
 
@@ -31,14 +29,3 @@ filled-code code column blank out ms S long B F = record {
       F .forced few ws (right-vanishes code S ws right) (λ k h e. keeps k h e ∙ sym (B .present k h e)) i q
       ∙ sym (getD-take (16 + code .r) out i 0 q));
 }
-
--- ---- the points of the positions
-
-unfoldable pub points : List ℕ
-points =
-    0x0001 ∷ 0x0002 ∷ 0x0004 ∷ 0x0008 ∷ 0x0010 ∷ 0x0020 ∷ 0x0040 ∷ 0x0080 ∷ 0x0100 ∷ 0x0200 ∷ 0x0400 ∷ 0x0800 ∷ 0x1000 ∷ 0x2000 ∷ 0x4000
-    ∷ 0x8000 ∷ 0x100B ∷ 0x2016 ∷ 0x402C ∷ 0x8058 ∷ []
-
-pub points-powers : Powers points wordProduct
-unfolding points power wordProduct product times double
-points-powers = same-at (λ k. getD points k 0) (power wordProduct 2) 20 tt

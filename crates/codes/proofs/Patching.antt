@@ -9,7 +9,7 @@ use native.Mathlib.Decide.{ℕ-discrete}
 use lib.ListN.{length, getD, set, length-set}
 use lib.Seq.{getD-set-same, getD-set-other}
 use Rattle.codes.specs.Filling.{missingCount, Keeps, Vanishes, FilledBySums}
-use Rattle.codes.proofs.Blanking.{clash}
+use Rattle.codes.proofs.Blanking.{clash, none-missing}
 
 -- v is the word at position p of every column of zero sums that has the blank column's words
 abbrev pub Forced : ℕ → (ℕ → ℕ → ℕ) → ℕ → ℕ → List ℕ → List Bool → ℕ → ℕ → Type 0
@@ -65,3 +65,11 @@ module _ (w : ℕ) (mul : ℕ → ℕ → ℕ) (n r : ℕ) (blank : List ℕ) (m
           → (i : ℕ) → i < n → (t : Bool) → getD ms i false ≡ t → getD ws i 0 ≡ getD out i 0
       at few ws vs ks i l true e = p .done i (omega arith) e few ws vs ks
       at few ws vs ks i l false e = ks i l e ∙ sym (p .keep i e)
+
+  -- nothing to put in
+  pub patch-whole : missingCount ms n ≡ 0 → FilledBySums w mul n r blank ms blank
+  patch-whole z = record {
+    keeps = λ i e. refl;
+    rest = λ i h. refl;
+    forced = λ few ws vs ks i l. ks i l (none-missing ms n z i l);
+  }

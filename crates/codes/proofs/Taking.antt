@@ -156,12 +156,12 @@ module _ (w : ℕ) (mul : ℕ → ℕ → ℕ) (inv : ℕ → ℕ) (F : FieldLaw
   unfolding weighted
   weighted-zero-any f h = total-ext _ _ n (λ i q. ap (λ t. mul t (f i)) (power-none w mul inv F one-lt a a-lt i) ∙ F .mul-one (f i) (h i q))
 
-  pub red-end : (scale : ℕ) (sums : List ℕ) (f : ℕ → ℕ) → scale < 2 ^ w → (scale ≡ 0 → ⊥) → othersCount ms p n < r
-      → Red mul w a n r ms p n scale sums e f → mul (inv scale) (getD sums 0 0) ≡ e p
-  red-end scale sums f s-lt ne few red =
-      ap (mul (inv scale)) (red .total 0 (omega arith) ∙ sum-zero ∙ total-single f n p p-lt (λ i h o. red .dead i h h o) ∙ red .own)
-      ∙ sym (F .mul-assoc (inv scale) scale (e p) (F .inv-lt scale s-lt) s-lt (e-lt p p-lt))
-      ∙ ap (λ t. mul t (e p)) (F .mul-comm (inv scale) scale (F .inv-lt scale s-lt) s-lt ∙ F .mul-inv scale s-lt ne)
+  pub red-end : (scale over : ℕ) (sums : List ℕ) (f : ℕ → ℕ) → scale < 2 ^ w → over < 2 ^ w → mul over scale ≡ 1 → othersCount ms p n < r
+      → Red mul w a n r ms p n scale sums e f → mul over (getD sums 0 0) ≡ e p
+  red-end scale over sums f s-lt o-lt one few red =
+      ap (mul over) (red .total 0 (omega arith) ∙ sum-zero ∙ total-single f n p p-lt (λ i h o. red .dead i h h o) ∙ red .own)
+      ∙ sym (F .mul-assoc over scale (e p) o-lt s-lt (e-lt p p-lt))
+      ∙ ap (λ t. mul t (e p)) one
       ∙ F .mul-one (e p) (e-lt p p-lt)
     where
       sum-zero : weighted mul a n 0 f ≡ total f n

@@ -7,13 +7,12 @@
 --   Vanishes w mul n r ws           n words of w bits whose first r sums are 0
 --   FilledBySums ..                 out is the column of zero sums if there is one at all
 --   Differs ..                      words at the missing positions that have these sums
---   Powers ps mul                   position i has the point 2 to the power i
 use mathlib.Core.Path.{_≡_}
 use mathlib.Core.List.{List}
 use mathlib.Core.Bool.{Bool, true, false, cond}
 use Prim.Native.Nat.{ℕ, zero, suc, _+_, _-_, _^_, _<_, _≤_}
 use lib.ListN.{length, getD, take, drop, replicate}
-use Rattle.field.specs.Sums.{power, weighted}
+use Rattle.field.specs.Sums.{weighted}
 use Rattle.codes.specs.Code.{Code, Right}
 
 unfoldable pub missingCount : List Bool → ℕ → ℕ
@@ -55,6 +54,3 @@ pub record Differs (w : ℕ) (mul : ℕ → ℕ → ℕ) (n r : ℕ) (marks : Li
   pub small : (i : ℕ) → i < n → e i < 2 ^ w
   pub off : (i : ℕ) → i < n → getD marks i false ≡ false → e i ≡ 0
   pub total : (j : ℕ) → j < r → getD totals j 0 ≡ weighted mul 2 n j e
-
-abbrev pub Powers : List ℕ → (ℕ → ℕ → ℕ) → Type 0
-Powers points mul = (k : ℕ) → k < 20 → getD points k 0 ≡ power mul 2 k

@@ -8,6 +8,7 @@ ghost use Rattle.field.specs.Polynomials.{wordProduct};
 ghost use Rattle.field.specs.Sums.{total, weighted};
 ghost use Rattle.codes.specs.TwoCodes.{fourCheck};
 use crate::column::blanked;
+use crate::column::count_missing;
 use crate::column::front;
 use crate::meaning::CheckCode;
 use crate::solve::filled_in;
@@ -32,33 +33,12 @@ pub impl CheckCode for FourCheck as FourCheckCode {
 
     fn fill(&self, column: [u16; 20], marks: [bool; 20]) -> [u16; 20] {
         let blank = blanked(column, marks, 20);
-        filled_in(&TwoByte, POINTS, 4, blank, marks, four_sums(blank))
+        if count_missing(marks, 20) == 0 {
+            return blank;
+        }
+        filled_in(&TwoByte, 4, blank, marks, four_sums(blank))
     }
 }
-
-// 0002h to the powers 0 to 19, the points of the positions.
-pub const POINTS: [u16; 20] = [
-    0x0001,
-    0x0002,
-    0x0004,
-    0x0008,
-    0x0010,
-    0x0020,
-    0x0040,
-    0x0080,
-    0x0100,
-    0x0200,
-    0x0400,
-    0x0800,
-    0x1000,
-    0x2000,
-    0x4000,
-    0x8000,
-    0x100B,
-    0x2016,
-    0x402C,
-    0x8058,
-];
 
 // The check words, group by group: those of the groups so far are carried into the next group.
 fn four_checks(words: [u16; 16]) -> [u16; 4]

@@ -5,7 +5,6 @@ ghost use lib.ListN.{getD};
 ghost use Rattle.field.specs.Sums.{total};
 ghost use Rattle.codes.specs.TwoCodes.{parity};
 use crate::column::blanked;
-use crate::four_check::POINTS;
 use crate::meaning::CheckCode;
 use crate::solve::filled_in;
 use field::TwoByte;
@@ -27,14 +26,7 @@ pub impl CheckCode for Parity as ParityCode {
 
     fn fill(&self, column: [u16; 20], marks: [bool; 20]) -> [u16; 20] {
         let blank = blanked(column, marks, 17);
-        filled_in(
-            &TwoByte,
-            POINTS,
-            1,
-            blank,
-            marks,
-            [xor_column(blank), 0, 0, 0],
-        )
+        filled_in(&TwoByte, 1, blank, marks, [xor_column(blank), 0, 0, 0])
     }
 }
 

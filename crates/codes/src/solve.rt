@@ -5,20 +5,18 @@ ghost use Prim.Native.Nat.{ℕ, _+_, _^_, _<_, _≤_};
 ghost use lib.Bits.{bitXor};
 ghost use lib.ListN.{getD};
 ghost use Rattle.field.specs.Sums.{weighted};
-ghost use Rattle.codes.specs.Filling.{Differs, FilledBySums, Powers, missingCount};
+ghost use Rattle.codes.specs.Filling.{Differs, FilledBySums, missingCount};
 use field::Field;
 
 // The blank column with each missing word as its sums ask for it; `totals` are the sums of the blank column.
 pub fn filled_in<F: Field>(
     field: &F,
-    points: [u16; 20],
     r: usize,
     blank: [u16; 20],
     marks: [bool; 20],
     totals: [u16; 4],
 ) -> [u16; 20]
     requires few { ⌜ r ≤ 4 ⌝ }
-    requires powers { ⌜ Powers points (F·Field .times (now field)) ⌝ }
     requires fits { ⌜ ((k : ℕ) → k < 16 + r → getD blank k 0 < 2 ^ F·Field .wide (now field)) ⌝ }
     requires zeros { ⌜ ((k : ℕ) → k < 16 + r → getD marks k false ≡ true → getD blank k 0 ≡ 0) ⌝ }
     requires sums { ⌜ ((j : ℕ) → j < r → getD totals j 0 ≡ weighted (F·Field .times (now field)) 2 (16 + r) j (λ i. getD blank i 0)) ⌝ }
@@ -27,17 +25,16 @@ pub fn filled_in<F: Field>(
     let mut out = blank;
     for k in 0..16 + r {
         if marks[k] {
-            out[k] = missing_word(field, points, r, totals, marks, k);
+            out[k] = missing_word(field, r, totals, marks, k);
         }
     }
     out
 }
 
 // The word at one missing position: the other missing positions are taken out of the sums one by one, and what is left
-// of the first sum is that word times a known scale.
+// of the first sum is that word, once each factor that it got is divided out.
 fn missing_word<F: Field>(
     field: &F,
-    points: [u16; 20],
     r: usize,
     totals: [u16; 4],
     marks: [bool; 20],
@@ -46,22 +43,19 @@ fn missing_word<F: Field>(
     requires few { ⌜ r ≤ 4 ⌝ }
     requires within { ⌜ at < 16 + r ⌝ }
     requires lost { ⌜ getD marks at false ≡ true ⌝ }
-    requires powers { ⌜ Powers points (F·Field .times (now field)) ⌝ }
     ensures { λ w. ⌜ (missingCount marks (16 + r) ≤ r → (e : ℕ → ℕ) → Differs (F·Field .wide (now (field .entry))) (F·Field .times (now (field .entry))) (16 + r) r marks totals e → w ≡ e at) ⌝ }
 {
     let mut sums = totals;
     let mut scale: u16 = 1;
-    let own = points[at];
     for k in 0..16 + r {
         if marks[k] {
             if k != at {
-                let other = points[k];
-                sums = without(field, sums, other);
-                scale = field.product(scale, own ^ other);
+                sums = without(field, sums, field.point(k));
+                scale = field.product(scale, field.gap(at, k));
             }
         }
     }
-    field.product(field.inverse(scale), sums[0])
+    field.product(scale, sums[0])
 }
 
 // The sums with each word times the distance of its point from y.

@@ -112,7 +112,7 @@ module _ (h m : ℕ) where
   times-bit k a c (suc zero) p = ap (λ y. times h m k y c) (mul-one a) ∙ sym (mul-one _)
   times-bit k a c (suc (suc x)) p = absurd (omega arith)
 
-  times-double : (k a c : ℕ) → times h m k (double h m a) c ≡ double h m (times h m k a c)
+  pub times-double : (k a c : ℕ) → times h m k (double h m a) c ≡ double h m (times h m k a c)
   unfolding times
   times-double zero a c = sym double-zero
   times-double (suc k) a c =

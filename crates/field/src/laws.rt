@@ -1,6 +1,8 @@
 // What a field of words is, and that two-byte words and bytes are fields by one argument.
 ghost use mathlib.Core.Path.{_≡_};
 ghost use Prim.Native.Nat.{ℕ, _≤_};
+ghost use lib.Bits.{bitXor};
+ghost use Rattle.field.specs.Sums.{power};
 ghost use Rattle.field.specs.Polynomials.{product as modulo, inverse as opposite};
 ghost use Rattle.field.specs.Laws.{FieldLaws, Powers-differ};
 
@@ -27,6 +29,14 @@ pub trait Field {
 
     fn inverse(&self, a: u16) -> u16
         ensures { λ r. ⌜ r ≡ over (now (self .entry)) a ⌝ };
+
+    // The point of position i of a column: 2 to the power i.
+    fn point(&self, i: usize) -> u16
+        ensures { λ r. ⌜ r ≡ power (times (now (self .entry))) 2 i ⌝ };
+
+    // The inverse of the difference of two points.
+    fn gap(&self, i: usize, k: usize) -> u16
+        ensures { λ r. ⌜ r ≡ over (now (self .entry)) (bitXor (power (times (now (self .entry))) 2 i) (power (times (now (self .entry))) 2 k)) ⌝ };
 }
 
 // The laws of the two-byte field and of the byte field: a theorem only.

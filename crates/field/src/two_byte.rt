@@ -1,8 +1,12 @@
 // The field of two-byte words: products are those of polynomials modulo 1100Bh.
 ghost use mathlib.Core.Path.{_≡_};
 ghost use Prim.Native.Nat.{ℕ};
-ghost use Rattle.field.specs.Polynomials.{double, wordProduct, wordInverse};
+ghost use Rattle.field.specs.Polynomials.{wordProduct, wordInverse};
+ghost use Rattle.field.specs.Sums.{power};
 use crate::laws::Field;
+use crate::points::near_gap;
+use crate::points::near_point;
+use crate::product::multiply;
 
 #[derive(Clone, Copy)]
 pub struct TwoByte;
@@ -25,27 +29,18 @@ pub impl Field for TwoByte as TwoByteField {
     fn inverse(&self, a: u16) -> u16 {
         reciprocal(a)
     }
-}
 
-// 0002h times v.
-fn double_word(v: u16) -> u16
-    ensures { λ r. ⌜ r ≡ double 15 0x1100B v ⌝ }
-{
-    let up = u32::from(v) << 1;
-    let low = if v >= 0x8000 { up ^ 0x1_100B } else { up };
-    low as u16
-}
-
-fn multiply(a: u16, b: u16) -> u16
-    ensures { λ r. ⌜ r ≡ wordProduct a b ⌝ }
-{
-    let mut product: u16 = 0;
-    let mut i: u32 = 16;
-    while i > 0 {
-        i -= 1;
-        product = double_word(product) ^ (a * ((b >> i) & 1));
+    fn point(&self, i: usize) -> u16 {
+        point_at(i)
     }
-    product
+
+    fn gap(&self, i: usize, k: usize) -> u16 {
+        if i < 20 && k < 20 {
+            near_gap(i, k)
+        } else {
+            reciprocal(point_at(i) ^ point_at(k))
+        }
+    }
 }
 
 // a to the power 65,534, by squaring: the word that a times it is 1, for a other than 0.
@@ -59,4 +54,18 @@ fn reciprocal(a: u16) -> u16
         square = multiply(square, square);
     }
     product
+}
+
+// 0002h to the power i; the first twenty are the points of a column.
+fn point_at(i: usize) -> u16
+    ensures { λ r. ⌜ r ≡ power wordProduct 2 i ⌝ }
+{
+    if i < 20 {
+        return near_point(i);
+    }
+    let mut x = 1;
+    for _k in 0..i {
+        x = multiply(2, x);
+    }
+    x
 }

@@ -7,7 +7,7 @@ use lib.Dec.{eqb, eqb→eq}
 use lib.ListN.{getD}
 use Rattle.field.specs.Polynomials.{double, times, product, wordProduct}
 use Rattle.check_groups.specs.Groups.{four}
-use Rattle.check_groups.proofs.Entries.{at}
+use Rattle.field.proofs.Computed.{at}
 use Rattle.check_groups.proofs.word_1.low_1.Needs as need
 
 entries : List ℕ

@@ -24,19 +24,15 @@ loop-k-again g c =
     let r = c .args .r in
     let H : ℕ → List ℕ → Type 0 = λ s t. Held mul wide (16 + r) r (c .args .marks) (c .args .at) (c .args .totals) (c .loop-k .k + 1) s t in
     let n20 : 16 + r ≤ 20 = omega (arith, c .pre .few) in
-    let k20 : c .loop-k .k < 20 = omega (arith, n20, c .loop-k-test .taken) in
-    let a20 : c .args .at < 20 = omega (arith, n20, c .pre .within) in
-    let own = c .pre .powers (c .args .at) a20 in
-    let other = c .pre .powers (c .loop-k .k) k20 in
     elim (c .if-marks-k .came) [
       | then-marks-k·then-k-at w ↦
           subst₂ H
-          (sym (w .scale-is ∙ w .product-scale .ensures ∙ ap (mul (c .loop-k .scale)) (ap₂ bitXor own other)))
+          (sym (w .scale-is ∙ w .product-scale .ensures ∙ ap (mul (c .loop-k .scale)) (w .gap .ensures)))
           (sym (w .sums-is))
           (held-take _ mul _ (g .F·Field·met .lawful f) (g .F·Field·met .narrow f .0) (g .F·Field·met .apart f) (16 + r) r n20
           (c .args .marks) (c .args .at) (c .pre .within) (c .args .totals) (c .loop-k .k) (c .loop-k .scale) (c .loop-k .sums) (w .without-sums .result)
           (c .pre .few) (c .loop-k-test .taken) (w .if-k-at .taken) (w .if-marks-k .taken)
-          (λ j q. w .without-sums .ensures j q ∙ ap (λ t. bitXor (getD (c .loop-k .sums) (j + 1) 0) (mul t (getD (c .loop-k .sums) j 0))) other)
+          (λ j q. w .without-sums .ensures j q ∙ ap (λ t. bitXor (getD (c .loop-k .sums) (j + 1) 0) (mul t (getD (c .loop-k .sums) j 0))) (w .point .ensures))
           (c .loop-k .inv))
       | then-marks-k·else-k-at w ↦
           subst₂ H (sym (w .scale-is)) (sym (w .sums-is))
@@ -56,7 +52,7 @@ returns g c = λ few e d.
     let mul = g .F·Field .times f in
     let r = c .args .r in
     let full : c .loop-k .k ≡ 16 + r = omega arith in
-    c .product .ensures ∙ ap (λ t. mul t (getD (c .loop-k .sums) 0 0)) (c .inverse .ensures)
+    c .product .ensures
     ∙ held-end _ mul _ (g .F·Field·met .lawful f) (g .F·Field·met .narrow f .0) (g .F·Field·met .apart f) (16 + r) r
     (omega (arith, c .pre .few)) (c .args .marks) (c .args .at) (c .pre .within) (c .args .totals) (c .loop-k .scale) (c .loop-k .sums) few (c .pre .lost)
     (subst (λ n. Held mul (g .F·Field .wide f) (16 + r) r (c .args .marks) (c .args .at) (c .args .totals) n (c .loop-k .scale) (c .loop-k .sums)) full (c .loop-k .inv)) e d

@@ -9,7 +9,7 @@ use Rattle.field.specs.Polynomials.{wordProduct}
 use Rattle.field.specs.Sums.{weighted}
 use Rattle.codes.specs.TwoCodes.{parity}
 use Rattle.codes.proofs.BothSolve.{parity-solves, plain-sum}
-use Rattle.codes.proofs.FilledCodes.{filled-code, points, points-powers}
+use Rattle.codes.proofs.FilledCodes.{filled-code}
 use Rattle.codes.proofs.parity.ParityCode.fill.Needs as need
 
 first-sum : (x : ℕ) (blank : List ℕ) → x ≡ weighted wordProduct 2 17 0 (λ i. getD blank i 0)
@@ -18,12 +18,10 @@ first-sum x blank e zero h = e
 first-sum x blank e (suc j) h = absurd (omega arith)
 
 pub filled-in-requires : need.filled-in-requires
-unfolding points
 filled-in-requires c κs =
     let fits : (k : ℕ) → k < 17 → getD (c .blanked-blank .result) k 0 < 65536 = λ k h. search needs in
     record {
       few = lit≤ tt;
-      powers = points-powers;
       fits = fits;
       zeros = c .blanked-blank .ensures .absent;
       sums = first-sum (c .xor-column .result) (c .blanked-blank .result) (c .xor-column .ensures ∙ sym (plain-sum 17 (λ i. getD (c .blanked-blank .result) i 0) fits));
