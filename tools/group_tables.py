@@ -104,6 +104,7 @@ pub returns : need.returns
 unfolding entries right wordProduct product times double
 returns c =
     let h : c .args .x < 256 = omega (arith, c .fits .x) in
-    eqb→eq (getD entries (c .args .x) 0) ({rule} (c .args .x * {shift})) (at right entries tt (c .args .x) h)
+    eqb→eq (getD entries (c .args .x) 0) ({rule} (c .args .x * {shift}))
+        (at right entries tt (c .args .x) h)
 ''')
     write(f'src/word_{q}.rt', source)

@@ -89,7 +89,8 @@ returns c =
     let h : 256 * c .args .n + c .args .y < 4096 = omega (arith, c .pre) in
     let y : (256 * c .args .n + c .args .y) % 256 ≡ c .args .y = omega (arith, c .pre) in
     let n : (256 * c .args .n + c .args .y) / 256 ≡ c .args .n = omega (arith, c .pre) in
-    eqb→eq (getD entries k 0) (times 15 0 4 (k % 256) (k / 256)) (at right entries tt k h) ∙ ap₂ (λ u v. times 15 0 4 u v) y n
+    eqb→eq (getD entries k 0) (times 15 0 4 (k % 256) (k / 256)) (at right entries tt k h)
+        ∙ ap₂ (λ u v. times 15 0 4 u v) y n
 ''')
 for up in (16, 24):
     unit = above[up][1]

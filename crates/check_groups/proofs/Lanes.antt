@@ -12,7 +12,8 @@ abbrev pub pack : ℕ → ℕ → ℕ → ℕ → ℕ
 pack p q r s = p + q * 2 ^ 16 + r * 2 ^ 32 + s * 2 ^ 48
 
 -- exclusive-or goes by parts
-pub pack-xor : (p q r s p′ q′ r′ s′ : ℕ) → p < 2 ^ 16 → q < 2 ^ 16 → r < 2 ^ 16 → p′ < 2 ^ 16 → q′ < 2 ^ 16 → r′ < 2 ^ 16
+pub pack-xor : (p q r s p′ q′ r′ s′ : ℕ) → p < 2 ^ 16 → q < 2 ^ 16 → r < 2 ^ 16 → p′ < 2 ^ 16 → q′ < 2 ^ 16
+    → r′ < 2 ^ 16
     → bitXor (pack p q r s) (pack p′ q′ r′ s′) ≡ pack (bitXor p p′) (bitXor q q′) (bitXor r r′) (bitXor s s′)
 pack-xor p q r s p′ q′ r′ s′ hp hq hr hp′ hq′ hr′ =
     let l : pack p q r s ≡ ((s * 2 ^ 16 + r) * 2 ^ 16 + q) * 2 ^ 16 + p = omega arith in
@@ -38,9 +39,11 @@ lane-3 p q r s hp hq hr hs = omega arith
 four-xor : (a b c d x y : ℕ) → a < 2 ^ 16 → b < 2 ^ 16 → c < 2 ^ 16 → d < 2 ^ 16 → x < 2 ^ 16 → y < 2 ^ 16
     → bitXor (four a b c d x) (four a b c d y) ≡ four a b c d (bitXor x y)
 four-xor a b c d x y ha hb hc hd hx hy =
-    pack-xor (wordProduct a x) (wordProduct b x) (wordProduct c x) (wordProduct d x) (wordProduct a y) (wordProduct b y) (wordProduct c y) (wordProduct d y)
+    pack-xor (wordProduct a x) (wordProduct b x) (wordProduct c x) (wordProduct d x) (wordProduct a y)
+    (wordProduct b y) (wordProduct c y) (wordProduct d y)
     (lt a x ha hx) (lt b x hb hx) (lt c x hc hx) (lt a y ha hy) (lt b y hb hy) (lt c y hc hy)
-    ∙ ap₂ _+_ (ap₂ _+_ (ap₂ _+_ (sum a ha) (ap (λ z. z * 2 ^ 16) (sum b hb))) (ap (λ z. z * 2 ^ 32) (sum c hc))) (ap (λ z. z * 2 ^ 48) (sum d hd))
+    ∙ ap₂ _+_ (ap₂ _+_ (ap₂ _+_ (sum a ha) (ap (λ z. z * 2 ^ 16) (sum b hb))) (ap (λ z. z * 2 ^ 32) (sum c hc)))
+    (ap (λ z. z * 2 ^ 48) (sum d hd))
   where
     lt : (a x : ℕ) → a < 2 ^ 16 → x < 2 ^ 16 → wordProduct a x < 2 ^ 16
     lt a x ha hx = word-field .mul-lt a x ha hx
@@ -61,10 +64,12 @@ by-bytes a b c d x ha hb hc hd hx =
 
 -- ---- the words of a group, each with its four numbers
 
-module _ (n : ℕ → ℕ → ℕ) (n-lt : (p q : ℕ) → p < 4 → q < 4 → n p q < 2 ^ 16) (x : ℕ → ℕ) (x-lt : (q : ℕ) → q < 4 → x q < 2 ^ 16) where
+module _ (n : ℕ → ℕ → ℕ) (n-lt : (p q : ℕ) → p < 4 → q < 4 → n p q < 2 ^ 16) (x : ℕ → ℕ) (x-lt : (q : ℕ) → q < 4
+    → x q < 2 ^ 16) where
   -- check word p
   abbrev pub lane : ℕ → ℕ
-  lane p = bitXor (bitXor (bitXor (wordProduct (n p 0) (x 0)) (wordProduct (n p 1) (x 1))) (wordProduct (n p 2) (x 2))) (wordProduct (n p 3) (x 3))
+  lane p = bitXor (bitXor (bitXor (wordProduct (n p 0) (x 0)) (wordProduct (n p 1) (x 1)))
+      (wordProduct (n p 2) (x 2))) (wordProduct (n p 3) (x 3))
 
   abbrev two : ℕ → ℕ
   two p = bitXor (wordProduct (n p 0) (x 0)) (wordProduct (n p 1) (x 1))
@@ -90,10 +95,12 @@ module _ (n : ℕ → ℕ → ℕ) (n-lt : (p q : ℕ) → p < 4 → q < 4 → n
   pub joined : bitXor (bitXor (bitXor (word 0) (word 1)) (word 2)) (word 3) ≡ pack (lane 0) (lane 1) (lane 2) (lane 3)
   joined =
       ap (λ z. bitXor (bitXor z (word 2)) (word 3))
-      (pack-xor _ _ _ _ _ _ _ _ (p-lt 0 0 (lit< tt) (lit< tt)) (p-lt 1 0 (lit< tt) (lit< tt)) (p-lt 2 0 (lit< tt) (lit< tt))
+      (pack-xor _ _ _ _ _ _ _ _ (p-lt 0 0 (lit< tt) (lit< tt)) (p-lt 1 0 (lit< tt) (lit< tt))
+      (p-lt 2 0 (lit< tt) (lit< tt))
       (p-lt 0 1 (lit< tt) (lit< tt)) (p-lt 1 1 (lit< tt) (lit< tt)) (p-lt 2 1 (lit< tt) (lit< tt)))
       ∙ ap (λ z. bitXor z (word 3))
       (pack-xor (two 0) (two 1) (two 2) (two 3) _ _ _ _ (two-lt 0 (lit< tt)) (two-lt 1 (lit< tt)) (two-lt 2 (lit< tt))
       (p-lt 0 2 (lit< tt) (lit< tt)) (p-lt 1 2 (lit< tt) (lit< tt)) (p-lt 2 2 (lit< tt) (lit< tt)))
-      ∙ pack-xor (three 0) (three 1) (three 2) (three 3) _ _ _ _ (three-lt 0 (lit< tt)) (three-lt 1 (lit< tt)) (three-lt 2 (lit< tt))
+      ∙ pack-xor (three 0) (three 1) (three 2) (three 3) _ _ _ _ (three-lt 0 (lit< tt)) (three-lt 1 (lit< tt))
+      (three-lt 2 (lit< tt))
       (p-lt 0 3 (lit< tt) (lit< tt)) (p-lt 1 3 (lit< tt) (lit< tt)) (p-lt 2 3 (lit< tt) (lit< tt))

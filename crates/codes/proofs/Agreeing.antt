@@ -56,7 +56,8 @@ still-words (some v ∷ c) [] w h k a = absurd h
 still-words (none ∷ c) (x ∷ u) [] h k a = absurd k
 still-words (some v ∷ c) (x ∷ u) [] h k a = absurd k
 still-words (none ∷ c) (x ∷ u) (y ∷ w) h k a = (h .0, still-words c u w (h .1) (k .1) (a .1))
-still-words (some v ∷ c) (x ∷ u) (y ∷ w) h k a = (subst (λ (n : ℕ). n < 65536) (sym (k .0) ∙ h .0) (a .0), still-words c u w (h .1) (k .1) (a .1))
+still-words (some v ∷ c) (x ∷ u) (y ∷ w) h k a =
+    (subst (λ (n : ℕ). n < 65536) (sym (k .0) ∙ h .0) (a .0), still-words c u w (h .1) (k .1) (a .1))
 
 pub all-words : (w : List ℕ) → ((i : ℕ) → i < length w → getD w i 0 < 65536) → AllWords w
 all-words [] h = tt
@@ -66,16 +67,19 @@ module _ (m : ℕ → Bool) (col : ℕ → ℕ) where
   abbrev hole : ℕ → Option ℕ
   hole i = cond (m i) none (some (col i))
 
-  pub agrees-from : (a n : ℕ) (w : List ℕ) → length w ≡ n → ((k : ℕ) → k < n → getD w k 0 < 65536) → ((k : ℕ) → k < n → m (a + k) ≡ false → getD w k 0 ≡ col (a + k)) → Agrees (map hole (counting a n)) w
+  pub agrees-from : (a n : ℕ) (w : List ℕ) → length w ≡ n → ((k : ℕ) → k < n → getD w k 0 < 65536)
+      → ((k : ℕ) → k < n → m (a + k) ≡ false → getD w k 0 ≡ col (a + k)) → Agrees (map hole (counting a n)) w
   agrees-from a zero [] l s h = tt
   agrees-from a zero (x ∷ w) l s h = absurd (let z : suc (length w) ≡ 0 = l in omega arith)
   agrees-from a (suc n) [] l s h = absurd (let z : 0 ≡ suc n = l in omega arith)
   agrees-from a (suc n) (x ∷ w) l s h =
       go (m a) refl
       (agrees-from (a + 1) n w (let z : suc (length w) ≡ suc n = l in omega arith) (λ k q. s (suc k) (omega arith))
-      (λ k q e. let z : a + 1 + k ≡ a + suc k = omega arith in h (suc k) (omega arith) (ap m (sym z) ∙ e) ∙ ap col (sym z)))
+      (λ k q e. let z : a + 1 + k ≡ a + suc k = omega arith in h (suc k) (omega arith) (ap m (sym z) ∙ e)
+      ∙ ap col (sym z)))
     where
-      go : (b : Bool) → m a ≡ b → Agrees (map hole (counting (a + 1) n)) w → Agrees (cond b none (some (col a)) ∷ map hole (counting (a + 1) n)) (x ∷ w)
+      go : (b : Bool) → m a ≡ b → Agrees (map hole (counting (a + 1) n)) w
+          → Agrees (cond b none (some (col a)) ∷ map hole (counting (a + 1) n)) (x ∷ w)
       go true e r = (s 0 (omega arith), r)
       go false e r = (sym (h 0 (omega arith) (ap m (add-zero a) ∙ e) ∙ ap col (add-zero a)), r)
 
@@ -86,11 +90,13 @@ module _ (m : ℕ → Bool) (col : ℕ → ℕ) where
   back-long a (suc n) [] h = absurd h
   back-long a (suc n) (x ∷ w) h = go (m a) h (λ k. back-long (a + 1) n w k)
     where
-      go : (b : Bool) → Agrees (cond b none (some (col a)) ∷ map hole (counting (a + 1) n)) (x ∷ w) → (Agrees (map hole (counting (a + 1) n)) w → length w ≡ n) → suc (length w) ≡ suc n
+      go : (b : Bool) → Agrees (cond b none (some (col a)) ∷ map hole (counting (a + 1) n)) (x ∷ w)
+          → (Agrees (map hole (counting (a + 1) n)) w → length w ≡ n) → suc (length w) ≡ suc n
       go true h ih = ap suc (ih (h .1))
       go false h ih = ap suc (ih (h .1))
 
-  pub back-small : ((k : ℕ) → col k < 65536) → (a n : ℕ) (w : List ℕ) → Agrees (map hole (counting a n)) w → (k : ℕ) → k < n → getD w k 0 < 65536
+  pub back-small : ((k : ℕ) → col k < 65536) → (a n : ℕ) (w : List ℕ) → Agrees (map hole (counting a n)) w → (k : ℕ)
+      → k < n → getD w k 0 < 65536
   back-small cs a zero w h k l = absurd (not-suc-le-zero l)
   back-small cs a (suc n) [] h k l = absurd h
   back-small cs a (suc n) (x ∷ w) h zero l = go (m a) h
@@ -100,29 +106,34 @@ module _ (m : ℕ → Bool) (col : ℕ → ℕ) where
       go false h = subst (λ y. y < 65536) (h .0) (cs a)
   back-small cs a (suc n) (x ∷ w) h (suc k) l = back-small cs (a + 1) n w (go (m a) h) k (omega arith)
     where
-      go : (b : Bool) → Agrees (cond b none (some (col a)) ∷ map hole (counting (a + 1) n)) (x ∷ w) → Agrees (map hole (counting (a + 1) n)) w
+      go : (b : Bool) → Agrees (cond b none (some (col a)) ∷ map hole (counting (a + 1) n)) (x ∷ w)
+          → Agrees (map hole (counting (a + 1) n)) w
       go true h = h .1
       go false h = h .1
 
-  pub back-same : (a n : ℕ) (w : List ℕ) → Agrees (map hole (counting a n)) w → (k : ℕ) → k < n → m (a + k) ≡ false → getD w k 0 ≡ col (a + k)
+  pub back-same : (a n : ℕ) (w : List ℕ) → Agrees (map hole (counting a n)) w → (k : ℕ) → k < n → m (a + k) ≡ false
+      → getD w k 0 ≡ col (a + k)
   back-same a zero w h k l e = absurd (not-suc-le-zero l)
   back-same a (suc n) [] h k l e = absurd h
   back-same a (suc n) (x ∷ w) h zero l e = go (m a) (ap m (sym (add-zero a)) ∙ e) h ∙ ap col (sym (add-zero a))
     where
-      go : (b : Bool) → b ≡ false → Agrees (cond b none (some (col a)) ∷ map hole (counting (a + 1) n)) (x ∷ w) → x ≡ col a
+      go : (b : Bool) → b ≡ false → Agrees (cond b none (some (col a)) ∷ map hole (counting (a + 1) n)) (x ∷ w)
+          → x ≡ col a
       go true e h = absurd (let z : _≡_ {A = ℕ} 0 1 = cc in omega arith)
       go false e h = sym (h .0)
   back-same a (suc n) (x ∷ w) h (suc k) l e =
       let z : a + suc k ≡ a + 1 + k = omega arith in
       back-same (a + 1) n w (go (m a) h) k (omega arith) (ap m (sym z) ∙ e) ∙ ap col (sym z)
     where
-      go : (b : Bool) → Agrees (cond b none (some (col a)) ∷ map hole (counting (a + 1) n)) (x ∷ w) → Agrees (map hole (counting (a + 1) n)) w
+      go : (b : Bool) → Agrees (cond b none (some (col a)) ∷ map hole (counting (a + 1) n)) (x ∷ w)
+          → Agrees (map hole (counting (a + 1) n)) w
       go true h = h .1
       go false h = h .1
 
 missing-append : (c e : List (Option ℕ)) → missing (c ++ e) ≡ missing c + missing e
 missing-append [] e = sym (zero-add (missing e))
-missing-append (none ∷ c) e = ap suc (missing-append c e) ∙ (let q : suc (missing c + missing e) ≡ suc (missing c) + missing e = omega arith in q)
+missing-append (none ∷ c) e = ap suc (missing-append c e)
+    ∙ (let q : suc (missing c + missing e) ≡ suc (missing c) + missing e = omega arith in q)
 missing-append (some u ∷ c) e = missing-append c e
 
 pub missing-present : (n : ℕ) (ws : List ℕ) (ms : List Bool) → missing (present n ws ms) ≡ missingCount ms n

@@ -18,7 +18,8 @@ count-yes ms i e = ap (λ x. missingCount ms i + cond x 1 0) (sym e) ∙ ap (mis
 
 pub count-no : (ms : List Bool) (i : ℕ) → getD ms i false ≡ false → missingCount ms i ≡ missingCount ms (i + 1)
 unfolding missingCount
-count-no ms i e = sym (add-zero (missingCount ms i)) ∙ ap (λ x. missingCount ms i + cond x 1 0) (sym e) ∙ ap (missingCount ms) (sym (add-one i))
+count-no ms i e = sym (add-zero (missingCount ms i)) ∙ ap (λ x. missingCount ms i + cond x 1 0) (sym e)
+    ∙ ap (missingCount ms) (sym (add-one i))
 
 pub zeros-at : (n k : ℕ) → getD {A = ℕ} (replicate n 0) k 0 ≡ 0
 zeros-at zero k = refl
@@ -39,11 +40,13 @@ blank-none column ms = record {
   rest = λ k h. zeros-at 20 k;
 }
 
-pub blank-more : (column : List ℕ) (ms : List Bool) (i : ℕ) (out : List ℕ) → length out ≡ 20 → i < 20 → Blanked column ms i out
+pub blank-more : (column : List ℕ) (ms : List Bool) (i : ℕ) (out : List ℕ) → length out ≡ 20 → i < 20
+    → Blanked column ms i out
     → getD ms i false ≡ false → Blanked column ms (i + 1) (set out i (getD column i 0))
 blank-more column ms i out l h b e = record {
   present = λ k p q. elim (ℕ-discrete k i) [
-    | yes z ↦ ap (λ n. getD (set out i (getD column i 0)) n 0) z ∙ getD-set-same out i (getD column i 0) 0 (omega arith) ∙ sym (ap (λ n. getD column n 0) z)
+    | yes z ↦ ap (λ n. getD (set out i (getD column i 0)) n 0) z
+        ∙ getD-set-same out i (getD column i 0) 0 (omega arith) ∙ sym (ap (λ n. getD column n 0) z)
     | no z ↦ getD-set-other out i k (getD column i 0) 0 z ∙ b .present k (omega arith) q
   ];
   absent = λ k p q. elim (ℕ-discrete k i) [

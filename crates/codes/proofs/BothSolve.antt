@@ -28,7 +28,8 @@ behind-at ws cs l p = ap (λ n. getD (ws ++ cs) (n + p) 0) (sym l) ∙ getD-appe
 -- a sum of the sixteen words and the check words behind them
 sum-parts : (r j : ℕ) (ws cs : List ℕ) → length ws ≡ 16 → length cs ≡ r
     → sum j (ws ++ cs)
-    ≡ bitXor (weighted wordProduct 2 16 j (λ i. getD ws i 0)) (total (λ q. wordProduct (power wordProduct 2 ((16 + q) * j)) (getD cs q 0)) r)
+    ≡ bitXor (weighted wordProduct 2 16 j (λ i. getD ws i 0))
+    (total (λ q. wordProduct (power wordProduct 2 ((16 + q) * j)) (getD cs q 0)) r)
 unfolding sum weighted
 sum-parts r j ws cs lw lc =
     ap (total f) (length-append ws cs ∙ ap₂ (λ x y. x + y) lw lc) ∙ total-add f 16 r
@@ -48,7 +49,8 @@ module _ (ws : List ℕ) (lw : length ws ≡ 16) (aw : AllWords ws) where
   carried-zero cs c j h =
       sum-parts 4 j ws cs lw (c .long) ∙ ap₂ bitXor (c .same j h) opened ∙ xor-self (tail 16 j (λ q. getD cs q 0))
     where
-      opened : total (λ q. wordProduct (power wordProduct 2 ((16 + q) * j)) (getD cs q 0)) 4 ≡ tail 16 j (λ q. getD cs q 0)
+      opened : total (λ q. wordProduct (power wordProduct 2 ((16 + q) * j)) (getD cs q 0)) 4
+          ≡ tail 16 j (λ q. getD cs q 0)
       opened = unfold tail in refl
 
   carried-words : (cs : List ℕ) → Carried (λ i. getD ws i 0) 16 cs → AllWords cs
@@ -66,10 +68,12 @@ module _ (ws : List ℕ) (lw : length ws ≡ 16) (aw : AllWords ws) where
       at : ℕ → ℕ
       at p = nextWord (λ q. getD s q 0) (λ q. getD (group n) q 0) p
 
-  stepped-carried : (n : ℕ) (s : List ℕ) → n + 4 ≤ 16 → Carried (λ i. getD ws i 0) n s → Carried (λ i. getD ws i 0) (n + 4) (stepped s n)
+  stepped-carried : (n : ℕ) (s : List ℕ) → n + 4 ≤ 16 → Carried (λ i. getD ws i 0) n s
+      → Carried (λ i. getD ws i 0) (n + 4) (stepped s n)
   unfolding stepped
   stepped-carried n s h c =
-      carried-more (λ i. getD ws i 0) n s (group n) (stepped s n) (λ q l. w-lt (n + q) (omega arith)) grouped refl made c
+      carried-more (λ i. getD ws i 0) n s (group n) (stepped s n) (λ q l. w-lt (n + q) (omega arith)) grouped refl
+      made c
     where
       grouped : (q : ℕ) → q < 4 → getD (group n) q 0 ≡ getD ws (n + q) 0
       grouped zero l = unfold group in ap (λ k. getD ws k 0) (let z : n ≡ n + 0 = omega arith in z)
@@ -95,7 +99,8 @@ module _ (ws : List ℕ) (lw : length ws ≡ 16) (aw : AllWords ws) where
 
   -- and the code has them
   pub four-carried : Carried (λ i. getD ws i 0) 16 (bySums 4 ws)
-  four-carried = subst (Carried (λ i. getD ws i 0) 16) (sym (carried-all (four-words .0) (four-words .1))) (four-words .1)
+  four-carried = subst (Carried (λ i. getD ws i 0) 16) (sym (carried-all (four-words .0) (four-words .1)))
+      (four-words .1)
 
 pub four-solves : Solves fourCheck
 four-solves = record {
@@ -111,7 +116,8 @@ pub plain-sum : (n : ℕ) (f : ℕ → ℕ) → ((i : ℕ) → i < n → f i < 2
 unfolding weighted
 plain-sum n f h =
     total-ext _ _ n (λ i p.
-    ap (λ t. wordProduct t (f i)) (power-none 16 wordProduct wordInverse word-field (lit< tt) 2 (lit< tt) i) ∙ word-field .mul-one (f i) (h i p))
+    ap (λ t. wordProduct t (f i)) (power-none 16 wordProduct wordInverse word-field (lit< tt) 2 (lit< tt) i)
+    ∙ word-field .mul-one (f i) (h i p))
 
 parity-lt : (ws : List ℕ) → length ws ≡ 16 → AllWords ws → parityWord ws < 2 ^ 16
 unfolding parityWord
@@ -123,7 +129,8 @@ parity-zero ws l a zero h =
     sum-parts 1 0 ws (parityWord ws ∷ []) l refl
     ∙ ap₂ bitXor (plain-sum 16 (λ i. getD ws i 0) (λ i q. words-small ws a i (subst (λ n. i < n) (sym l) q)))
     (plain-one (λ q. wordProduct (power wordProduct 2 ((16 + q) * 0)) (getD (parityWord ws ∷ []) q 0))
-    ∙ ap (λ t. wordProduct t (parityWord ws)) (power-none 16 wordProduct wordInverse word-field (lit< tt) 2 (lit< tt) 16)
+    ∙ ap (λ t. wordProduct t (parityWord ws))
+    (power-none 16 wordProduct wordInverse word-field (lit< tt) 2 (lit< tt) 16)
     ∙ word-field .mul-one (parityWord ws) (parity-lt ws l a) ∙ opened)
     ∙ xor-self (total (λ i. getD ws i 0) 16)
   where

@@ -1,4 +1,5 @@
--- Columns of words whose sums over the powers of distinct points are 0, and that differ in few words, are equal. Assumes nothing.
+-- Columns of words whose sums over the powers of distinct points are 0, and that differ in few words, are equal.
+-- Assumes nothing.
 use mathlib.Core.Path.{_≡_, refl, sym, _∙_, ap, ap₂, subst}
 use mathlib.Core.List.{List, [], _∷_}
 use mathlib.Core.Bool.{Bool, true, false, cond}
@@ -34,26 +35,38 @@ flag-differs u w = go (eqb u w) refl
         omega (arith, ap flag q)
     go false e = most (bitXor u w)
 
-nonzeros-differs : (us ws : List ℕ) → length us ≡ length ws → nonzeros (λ i. bitXor (getD us i 0) (getD ws i 0)) (length us) ≤ differences us ws
+nonzeros-differs : (us ws : List ℕ) → length us ≡ length ws
+    → nonzeros (λ i. bitXor (getD us i 0) (getD ws i 0)) (length us) ≤ differences us ws
 nonzeros-differs [] [] e = unfold nonzeros in omega arith
 nonzeros-differs [] (w ∷ ws) e = absurd (omega arith)
 nonzeros-differs (u ∷ us) [] e = absurd (omega arith)
 nonzeros-differs (u ∷ us) (w ∷ ws) e =
-    omega (arith, nonzeros-front (λ i. bitXor (getD (u ∷ us) i 0) (getD (w ∷ ws) i 0)) (length us), flag-differs u w, nonzeros-differs us ws (omega arith))
+    omega (
+      arith,
+      nonzeros-front (λ i. bitXor (getD (u ∷ us) i 0) (getD (w ∷ ws) i 0)) (length us),
+      flag-differs u w,
+      nonzeros-differs us ws (omega arith),
+    )
 
-module _ (w : ℕ) (mul : ℕ → ℕ → ℕ) (inv : ℕ → ℕ) (F : FieldLaws w mul inv) (one-lt : 1 < 2 ^ w) (a : ℕ) (a-lt : a < 2 ^ w) where
+module _ (w : ℕ) (mul : ℕ → ℕ → ℕ) (inv : ℕ → ℕ) (F : FieldLaws w mul inv) (one-lt : 1 < 2 ^ w) (a : ℕ)
+    (a-lt : a < 2 ^ w) where
   -- two columns of n words whose r sums are 0, and that differ in at most r words, are equal
   pub few-differences : (n : ℕ) → Powers-differ mul a n → (r : ℕ) (xs ys : List ℕ)
-      → length xs ≡ n → length ys ≡ n → ((i : ℕ) → i < n → getD xs i 0 < 2 ^ w) → ((i : ℕ) → i < n → getD ys i 0 < 2 ^ w)
-      → ((j : ℕ) → j < r → weighted mul a n j (λ i. getD xs i 0) ≡ 0) → ((j : ℕ) → j < r → weighted mul a n j (λ i. getD ys i 0) ≡ 0)
+      → length xs ≡ n → length ys ≡ n → ((i : ℕ) → i < n → getD xs i 0 < 2 ^ w)
+      → ((i : ℕ) → i < n → getD ys i 0 < 2 ^ w)
+      → ((j : ℕ) → j < r → weighted mul a n j (λ i. getD xs i 0) ≡ 0)
+      → ((j : ℕ) → j < r → weighted mul a n j (λ i. getD ys i 0) ≡ 0)
       → differences xs ys ≤ r → xs ≡ ys
   few-differences n distinct r xs ys lx ly wx wy sx sy h =
       ext-getD 0 xs ys (lx ∙ sym ly) (λ i p. xor-equal _ _ (all i (subst (λ k. i < k) lx p)))
     where
       words : nonzeros (λ i. bitXor (getD xs i 0) (getD ys i 0)) n ≤ differences xs ys
-      words = subst (λ (m : ℕ). nonzeros (λ i. bitXor (getD xs i 0) (getD ys i 0)) m ≤ differences xs ys) lx (nonzeros-differs xs ys (lx ∙ sym ly))
+      words = subst (λ (m : ℕ). nonzeros (λ i. bitXor (getD xs i 0) (getD ys i 0)) m ≤ differences xs ys) lx
+          (nonzeros-differs xs ys (lx ∙ sym ly))
 
       all : (i : ℕ) → i < n → bitXor (getD xs i 0) (getD ys i 0) ≡ 0
-      all = few w mul inv F one-lt a a-lt n distinct r (λ i. bitXor (getD xs i 0) (getD ys i 0)) (λ i p. xor-lt w _ _ (wx i p) (wy i p))
+      all = few w mul inv F one-lt a a-lt n distinct r (λ i. bitXor (getD xs i 0) (getD ys i 0))
+          (λ i p. xor-lt w _ _ (wx i p) (wy i p))
           (omega (arith, words))
-          (λ j p. weighted-xor w mul inv F one-lt a a-lt n j (λ i. getD xs i 0) (λ i. getD ys i 0) wx wy ∙ ap₂ bitXor (sx j p) (sy j p))
+          (λ j p. weighted-xor w mul inv F one-lt a a-lt n j (λ i. getD xs i 0) (λ i. getD ys i 0) wx wy
+          ∙ ap₂ bitXor (sx j p) (sy j p))

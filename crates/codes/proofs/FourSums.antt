@@ -33,7 +33,8 @@ tails-powers (suc (suc (suc (suc j)))) h = absurd (omega arith)
 -- what the check words and the words in their place differ by
 abbrev pub apart : List ℕ → List ℕ → List ℕ
 apart made column =
-    bitXor (getD made 0 0) (getD column 16 0) ∷ bitXor (getD made 1 0) (getD column 17 0) ∷ bitXor (getD made 2 0) (getD column 18 0)
+    bitXor (getD made 0 0) (getD column 16 0) ∷ bitXor (getD made 1 0) (getD column 17 0)
+    ∷ bitXor (getD made 2 0) (getD column 18 0)
     ∷ bitXor (getD made 3 0) (getD column 19 0) ∷ []
 
 module _ (column ws made : List ℕ) (long : length column ≡ 20) (small : (i : ℕ) → i < 20 → getD column i 0 < 2 ^ 16)
@@ -48,10 +49,14 @@ module _ (column ws made : List ℕ) (long : length column ≡ 20) (small : (i :
   carried =
       subst (Carried (λ i. getD ws i 0) 16) (sym is-made)
       (four-carried ws front-long
-      (all-words ws (λ i l. let q : i < 16 = omega (arith, front-long) in subst (λ x. x < 2 ^ 16) (sym (front-at i q)) (small i (omega arith)))))
+      (all-words ws (λ i l. let q : i < 16 = omega (arith, front-long) in subst (λ x. x < 2 ^ 16) (sym (front-at i q))
+      (small i (omega arith)))))
 
-  pub four-sum : (j : ℕ) → j < 4 → total (λ q. wordProduct (getD (tails j) q 0) (getD (apart made column) q 0)) 4 ≡ weighted wordProduct 2 20 j (λ i. getD column i 0)
-  four-sum j h = opened ∙ sym (whole ∙ tail-xor 16 j (λ q. getD made q 0) (λ q. getD column (16 + q) 0) (carried .small) (λ q l. small (16 + q) (omega arith)))
+  pub four-sum : (j : ℕ) → j < 4 → total (λ q. wordProduct (getD (tails j) q 0) (getD (apart made column) q 0)) 4
+      ≡ weighted wordProduct 2 20 j (λ i. getD column i 0)
+  four-sum j h = opened ∙ sym (whole
+      ∙ tail-xor 16 j (λ q. getD made q 0) (λ q. getD column (16 + q) 0) (carried .small)
+      (λ q l. small (16 + q) (omega arith)))
     where
       difference : (q : ℕ) → q < 4 → getD (apart made column) q 0 ≡ bitXor (getD made q 0) (getD column (16 + q) 0)
       difference zero l = refl
@@ -60,7 +65,8 @@ module _ (column ws made : List ℕ) (long : length column ≡ 20) (small : (i :
       difference (suc (suc (suc zero))) l = refl
       difference (suc (suc (suc (suc q)))) l = absurd (omega arith)
 
-      opened : total (λ q. wordProduct (getD (tails j) q 0) (getD (apart made column) q 0)) 4 ≡ tail 16 j (λ q. bitXor (getD made q 0) (getD column (16 + q) 0))
+      opened : total (λ q. wordProduct (getD (tails j) q 0) (getD (apart made column) q 0)) 4
+          ≡ tail 16 j (λ q. bitXor (getD made q 0) (getD column (16 + q) 0))
       opened = unfold tail in total-ext _ _ 4 (λ q l. ap₂ wordProduct (tails-powers j h q l) (difference q l))
 
       front : weighted wordProduct 2 16 j (λ i. getD column i 0) ≡ tail 16 j (λ q. getD made q 0)
@@ -69,9 +75,11 @@ module _ (column ws made : List ℕ) (long : length column ≡ 20) (small : (i :
           same : weighted wordProduct 2 16 j (λ i. getD column i 0) ≡ weighted wordProduct 2 16 j (λ i. getD ws i 0)
           same = unfold weighted in total-ext _ _ 16 (λ i l. ap (wordProduct _) (sym (front-at i l)))
 
-      whole : weighted wordProduct 2 20 j (λ i. getD column i 0) ≡ bitXor (tail 16 j (λ q. getD made q 0)) (tail 16 j (λ q. getD column (16 + q) 0))
+      whole : weighted wordProduct 2 20 j (λ i. getD column i 0)
+          ≡ bitXor (tail 16 j (λ q. getD made q 0)) (tail 16 j (λ q. getD column (16 + q) 0))
       whole = parts ∙ ap (λ t. bitXor t (tail 16 j (λ q. getD column (16 + q) 0))) front
         where
           parts : weighted wordProduct 2 20 j (λ i. getD column i 0)
               ≡ bitXor (weighted wordProduct 2 16 j (λ i. getD column i 0)) (tail 16 j (λ q. getD column (16 + q) 0))
-          parts = unfold weighted tail in total-add (λ i. wordProduct (power wordProduct 2 (i * j)) (getD column i 0)) 16 4
+          parts = unfold weighted tail in total-add (λ i. wordProduct (power wordProduct 2 (i * j)) (getD column i 0))
+              16 4

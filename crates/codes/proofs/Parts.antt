@@ -6,12 +6,14 @@ use native.Mathlib.Omega.{arith}
 use lib.ListN.{length, getD, take, drop}
 use Rattle.std.proofs.shelf.Lists.{ext-getD, getD-take, getD-drop, length-take-le, length-drop}
 
-pub front-same : (xs ys : List ℕ) (n : ℕ) → length xs ≡ n → n ≤ length ys → ((k : ℕ) → k < n → getD xs k 0 ≡ getD ys k 0) → xs ≡ take n ys
+pub front-same : (xs ys : List ℕ) (n : ℕ) → length xs ≡ n → n ≤ length ys
+    → ((k : ℕ) → k < n → getD xs k 0 ≡ getD ys k 0) → xs ≡ take n ys
 front-same xs ys n lx ly h =
     ext-getD 0 xs (take n ys) (lx ∙ sym (length-take-le n ys ly))
     (λ i p. let q : i < n = subst (λ k. i < k) lx p in h i q ∙ sym (getD-take n ys i 0 q))
 
-pub tail-same : (xs ys : List ℕ) → length xs ≡ 20 → length ys ≡ 4 → getD xs 16 0 ≡ getD ys 0 0 → getD xs 17 0 ≡ getD ys 1 0
+pub tail-same : (xs ys : List ℕ) → length xs ≡ 20 → length ys ≡ 4 → getD xs 16 0 ≡ getD ys 0 0
+    → getD xs 17 0 ≡ getD ys 1 0
     → getD xs 18 0 ≡ getD ys 2 0 → getD xs 19 0 ≡ getD ys 3 0 → drop 16 xs ≡ ys
 tail-same xs ys lx ly a b c d =
     ext-getD 0 (drop 16 xs) ys len (λ i p. getD-drop 16 xs i 0 ∙ at i (omega (arith, len)))

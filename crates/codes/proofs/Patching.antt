@@ -17,7 +17,8 @@ Forced w mul n r blank ms p v =
     missingCount ms n ≤ r → (ws : List ℕ) → Vanishes w mul n r ws → Keeps ws blank ms n → getD ws p 0 ≡ v
 
 -- the blank column with the missing words below k put in
-pub record Patched (w : ℕ) (mul : ℕ → ℕ → ℕ) (n r : ℕ) (blank : List ℕ) (ms : List Bool) (k : ℕ) (out : List ℕ) : Type 0 where
+pub record Patched (w : ℕ) (mul : ℕ → ℕ → ℕ) (n r : ℕ) (blank : List ℕ) (ms : List Bool) (k : ℕ) (out : List ℕ) : Type
+    0 where
   pub long : length out ≡ 20
   pub keep : (i : ℕ) → getD ms i false ≡ false → getD out i 0 ≡ getD blank i 0
   pub rest : (i : ℕ) → n ≤ i → getD out i 0 ≡ getD blank i 0
@@ -43,7 +44,8 @@ module _ (w : ℕ) (mul : ℕ → ℕ → ℕ) (n r : ℕ) (blank : List ℕ) (m
     ];
   }
 
-  pub patch-skip : (k : ℕ) (out : List ℕ) → Patched w mul n r blank ms k out → getD ms k false ≡ false → Patched w mul n r blank ms (k + 1) out
+  pub patch-skip : (k : ℕ) (out : List ℕ) → Patched w mul n r blank ms k out → getD ms k false ≡ false
+      → Patched w mul n r blank ms (k + 1) out
   patch-skip k out p e = record {
     long = p .long;
     keep = p .keep;
@@ -54,7 +56,8 @@ module _ (w : ℕ) (mul : ℕ → ℕ → ℕ) (n r : ℕ) (blank : List ℕ) (m
     ];
   }
 
-  pub patch-all : (out : List ℕ) (k : ℕ) → n ≤ k → Patched w mul n r blank ms k out → FilledBySums w mul n r blank ms out
+  pub patch-all : (out : List ℕ) (k : ℕ) → n ≤ k → Patched w mul n r blank ms k out
+      → FilledBySums w mul n r blank ms out
   patch-all out k h p = record {
     keeps = p .keep;
     rest = p .rest;

@@ -59,13 +59,20 @@ rebuilds code c ws h =
     (subst (λ (x : List ℕ). T (sameList (drop 16 ws) x)) (h .right .2) (same-refl (drop 16 ws)))
     (λ u k t.
     let a : Agrees c u = among-agrees c u k in
-    h .only u (same-length c u ws a (h .agrees) ∙ h .right .0, still-words c u ws a (h .agrees) (h .right .1), same-eq (drop 16 u) (code .checks (take 16 u)) t) a)
+    h .only u (
+      same-length c u ws a (h .agrees)
+          ∙ h .right .0,
+      still-words c u ws a (h .agrees) (h .right .1),
+      same-eq (drop 16 u) (code .checks (take 16 u))
+          t,
+    ) a)
 
 module _ (code : Code) (column : List ℕ) (ms : List Bool) where
   n : ℕ
   n = 16 + code .r
 
-  keeps-agrees : (ws : List ℕ) → Right code ws → ((i : ℕ) → i < 16 + code .r → getD ws i 0 < 65536) → Keeps ws column ms (16 + code .r)
+  keeps-agrees : (ws : List ℕ) → Right code ws → ((i : ℕ) → i < 16 + code .r → getD ws i 0 < 65536)
+      → Keeps ws column ms (16 + code .r)
       → Agrees (seen code column ms) ws
   unfolding present
   keeps-agrees ws r small k =
@@ -78,14 +85,17 @@ module _ (code : Code) (column : List ℕ) (ms : List Bool) where
   unfolding present
   agrees-keeps ws a i l e =
       let z : 0 + i ≡ i = omega arith in
-      back-same (λ i. getD ms i false) (λ i. getD column i 0) 0 (16 + code .r) ws a i l (subst (λ j. getD ms j false ≡ false) (sym z) e)
+      back-same (λ i. getD ms i false) (λ i. getD column i 0) 0 (16 + code .r) ws a i l
+      (subst (λ j. getD ms j false ≡ false) (sym z) e)
       ∙ ap (λ j. getD column j 0) z
 
-  agrees-right : ((k : ℕ) → getD column k 0 < 65536) → (ws : List ℕ) → Agrees (seen code column ms) ws → T (isRight code ws) → Right code ws
+  agrees-right : ((k : ℕ) → getD column k 0 < 65536) → (ws : List ℕ) → Agrees (seen code column ms) ws
+      → T (isRight code ws) → Right code ws
   unfolding present
   agrees-right small ws a t = (
     long,
-    all-words ws (λ i l. back-small (λ i. getD ms i false) (λ i. getD column i 0) small 0 (16 + code .r) ws a i (subst (λ m. i < m) long l)),
+    all-words ws (λ i l. back-small (λ i. getD ms i false) (λ i. getD column i 0) small 0 (16 + code .r) ws a i
+        (subst (λ m. i < m) long l)),
     same-eq (drop 16 ws) (code .checks (take 16 ws)) t,
   )
     where
@@ -97,25 +107,29 @@ module _ (code : Code) (column : List ℕ) (ms : List Bool) where
 
   -- ---- too many are missing
 
-  pub too-many : (count : ℕ) → count ≡ missingCount ms (16 + code .r) → code .r < count → code .r < missing (seen code column ms)
+  pub too-many : (count : ℕ) → count ≡ missingCount ms (16 + code .r) → code .r < count
+      → code .r < missing (seen code column ms)
   too-many count e l = subst (λ m. code .r < m) (e ∙ sym count-seen) l
 
   pub many-answered : (count : ℕ) → count ≡ missingCount ms (16 + code .r) → code .r < count
       → (replicate 20 0, Err (15, count ∷ [])) ≡ answered code (seen code column ms)
   many-answered count e l =
       ap (λ m. (replicate 20 0, Err (15, m ∷ []))) (e ∙ sym count-seen)
-      ∙ sym (ap (λ b. cond b (replicate 20 0, Err (15, missing (seen code column ms) ∷ [])) (offered code (rebuild code (seen code column ms))))
+      ∙ sym (ap (λ b. cond b (replicate 20 0, Err (15, missing (seen code column ms) ∷ []))
+      (offered code (rebuild code (seen code column ms))))
       (lt-ltb (code .r) (missing (seen code column ms)) (too-many count e l)))
 
   few-answered : missingCount ms (16 + code .r) ≤ code .r
       → offered code (rebuild code (seen code column ms)) ≡ answered code (seen code column ms)
   few-answered l =
-      sym (ap (λ b. cond b (replicate 20 0, Err (15, missing (seen code column ms) ∷ [])) (offered code (rebuild code (seen code column ms))))
+      sym (ap (λ b. cond b (replicate 20 0, Err (15, missing (seen code column ms) ∷ []))
+      (offered code (rebuild code (seen code column ms))))
       (le-ltb (code .r) (missing (seen code column ms)) (subst (λ m. m ≤ code .r) (sym count-seen) l)))
 
   -- ---- the filled column is right, or there is none
 
-  module _ (out : List ℕ) (r4 : code .r ≤ 4) (few : missingCount ms (16 + code .r) ≤ code .r) (F : Filled code column ms out)
+  module _ (out : List ℕ) (r4 : code .r ≤ 4) (few : missingCount ms (16 + code .r) ≤ code .r)
+      (F : Filled code column ms out)
       (long : length out ≡ 20) (small : (k : ℕ) → k < 20 → getD out k 0 < 65536) (made : List ℕ)
       (is-made : made ≡ code .checks (take 16 out) ++ replicate (4 - code .r) 0) where
     ws : List ℕ
@@ -132,9 +146,11 @@ module _ (code : Code) (column : List ℕ) (ms : List Bool) where
 
     front-same : take 16 (take (16 + code .r) out) ≡ take 16 out
     front-same =
-        ext-getD 0 _ _ (length-take-le 16 (take (16 + code .r) out) (omega (arith, ws-long)) ∙ sym (length-take-le 16 out (omega arith)))
+        ext-getD 0 _ _ (length-take-le 16 (take (16 + code .r) out) (omega (arith, ws-long))
+        ∙ sym (length-take-le 16 out (omega arith)))
         (λ i p. let q : i < 16 = omega (arith, length-take-le 16 (take (16 + code .r) out) (omega (arith, ws-long))) in
-        getD-take 16 (take (16 + code .r) out) i 0 q ∙ getD-take (16 + code .r) out i 0 (omega arith) ∙ sym (getD-take 16 out i 0 q))
+        getD-take 16 (take (16 + code .r) out) i 0 q ∙ getD-take (16 + code .r) out i 0 (omega arith)
+        ∙ sym (getD-take 16 out i 0 q))
 
     tail-parts : drop 16 out ≡ drop 16 (take (16 + code .r) out) ++ replicate (4 - code .r) 0
     tail-parts =
@@ -161,8 +177,10 @@ module _ (code : Code) (column : List ℕ) (ms : List Bool) where
 
     pub column-answered : drop 16 out ≡ made → (out, Ok tt) ≡ answered code (seen code column ms)
     column-answered e =
-        ap (λ x. (x, Ok tt)) (sym (take-append-drop (16 + code .r) out) ∙ ap (λ t. take (16 + code .r) out ++ t) (F .rest))
-        ∙ ap (offered code) (sym (rebuilds code (seen code column ms) (take (16 + code .r) out) (the-column e))) ∙ few-answered few
+        ap (λ x. (x, Ok tt)) (sym (take-append-drop (16 + code .r) out)
+        ∙ ap (λ t. take (16 + code .r) out ++ t) (F .rest))
+        ∙ ap (offered code) (sym (rebuilds code (seen code column ms) (take (16 + code .r) out) (the-column e)))
+        ∙ few-answered few
 
     pub no-column : (drop 16 out ≡ made → ⊥) → HasNoColumn code (seen code column ms)
     no-column ne = record {
@@ -170,7 +188,8 @@ module _ (code : Code) (column : List ℕ) (ms : List Bool) where
       none = λ us ru au.
           let e : us ≡ take (16 + code .r) out = F .forced few us ru (agrees-keeps us au) in
           ne (tail-parts
-          ∙ ap (λ t. t ++ replicate (4 - code .r) 0) (subst (λ t. drop 16 t ≡ code .checks (take 16 t)) e (ru .2)) ∙ sym made-is);
+          ∙ ap (λ t. t ++ replicate (4 - code .r) 0) (subst (λ t. drop 16 t ≡ code .checks (take 16 t)) e (ru .2))
+          ∙ sym made-is);
     }
 
     pub none-answered : ((k : ℕ) → getD column k 0 < 65536) → (drop 16 out ≡ made → ⊥)

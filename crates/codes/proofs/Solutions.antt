@@ -34,12 +34,14 @@ zero-fact (suc r) ws t j h = elim (eq-or-lt-of-le (le-of-suc-le-suc h)) [
 zero-test : (r : ℕ) (ws : List ℕ) → Sums-are-zero r ws → T (zeroSums r ws)
 zero-test zero ws h = tt
 zero-test (suc r) ws h =
-    subst (λ (b : Bool). T (b && zeroSums r ws)) (sym (is-true (eqb (sum r ws) 0) (subst (λ v. T (eqb v 0)) (sym (h r (omega arith))) tt)))
+    subst (λ (b : Bool). T (b && zeroSums r ws))
+    (sym (is-true (eqb (sum r ws) 0) (subst (λ v. T (eqb v 0)) (sym (h r (omega arith))) tt)))
     (zero-test r ws (λ j l. h j (omega arith)))
 
 -- ---- columns of zero sums
 
-pub vanishes : (r : ℕ) (ws : List ℕ) → length ws ≡ 16 + r → AllWords ws → Sums-are-zero r ws → Vanishes 16 wordProduct (16 + r) r ws
+pub vanishes : (r : ℕ) (ws : List ℕ) → length ws ≡ 16 + r → AllWords ws → Sums-are-zero r ws
+    → Vanishes 16 wordProduct (16 + r) r ws
 unfolding sum
 vanishes r ws l a z = record {
   long = l;
@@ -51,11 +53,13 @@ equal : (r : ℕ) (us ws : List ℕ) → r ≤ 4 → Vanishes 16 wordProduct (16
     → differences us ws ≤ r → us ≡ ws
 equal r us ws r4 u w h =
     few-differences 16 wordProduct wordInverse word-field (lit< tt) 2 (lit< tt) (16 + r)
-    (λ i j p q. word-differ i j (omega arith) (omega arith)) r us ws (u .long) (w .long) (u .small) (w .small) (u .sums) (w .sums) h
+    (λ i j p q. word-differ i j (omega arith) (omega arith)) r us ws (u .long) (w .long) (u .small) (w .small)
+    (u .sums) (w .sums) h
 
 -- ---- the words that bySums finds
 
-gaps-agree : (ws cs : List ℕ) (r : ℕ) → length cs ≡ r → AllWords cs → Agrees (map some ws ++ replicate r none) (ws ++ cs)
+gaps-agree : (ws cs : List ℕ) (r : ℕ) → length cs ≡ r → AllWords cs
+    → Agrees (map some ws ++ replicate r none) (ws ++ cs)
 gaps-agree (w ∷ ws) cs r l a = (refl, gaps-agree ws cs r l a)
 gaps-agree [] [] zero l a = tt
 gaps-agree [] [] (suc r) l a = absurd (omega arith)
@@ -75,7 +79,8 @@ pub all-append : (us ws : List ℕ) → AllWords us → AllWords ws → AllWords
 all-append [] ws a b = b
 all-append (u ∷ us) ws a b = (a .0, all-append us ws (a .1) b)
 
-pub solution : (r : ℕ) (ws cs : List ℕ) → r ≤ 4 → length ws ≡ 16 → AllWords ws → length cs ≡ r → AllWords cs → Sums-are-zero r (ws ++ cs)
+pub solution : (r : ℕ) (ws cs : List ℕ) → r ≤ 4 → length ws ≡ 16 → AllWords ws → length cs ≡ r → AllWords cs
+    → Sums-are-zero r (ws ++ cs)
     → bySums r ws ≡ cs
 unfolding bySums
 solution r ws cs r4 lw aw lc ac z =
@@ -84,7 +89,8 @@ solution r ws cs r4 lw aw lc ac z =
     (λ u k t.
     let a : Agrees gaps u = among-agrees gaps u k in
     equal r u (ws ++ cs) r4
-    (vanishes r u (same-length gaps u (ws ++ cs) a fits ∙ long) (still-words gaps u (ws ++ cs) a fits all) (zero-fact r u t))
+    (vanishes r u (same-length gaps u (ws ++ cs) a fits ∙ long) (still-words gaps u (ws ++ cs) a fits all)
+    (zero-fact r u t))
     (vanishes r (ws ++ cs) long all z)
     (le-trans (differ-missing gaps u (ws ++ cs) a fits) (subst (λ n. n ≤ r) (sym (gaps-missing ws r)) (le-refl r)))))
     ∙ drop-front ws cs
@@ -106,7 +112,8 @@ solution r ws cs r4 lw aw lc ac z =
 pub record Solves (code : Code) : Type 0 where
   pub one : 1 ≤ code .r
   pub four : code .r ≤ 4
-  pub makes : (ws : List ℕ) → length ws ≡ 16 → AllWords ws → (length (code .checks ws) ≡ code .r) × AllWords (code .checks ws)
+  pub makes : (ws : List ℕ) → length ws ≡ 16 → AllWords ws
+      → (length (code .checks ws) ≡ code .r) × AllWords (code .checks ws)
   pub zeros : (ws : List ℕ) → length ws ≡ 16 → AllWords ws → Sums-are-zero (code .r) (ws ++ code .checks ws)
 
 front-all : (n : ℕ) (ws : List ℕ) → AllWords ws → AllWords (take n ws)
@@ -116,7 +123,8 @@ front-all (suc n) (w ∷ ws) a = (a .0, front-all n ws (a .1))
 
 few-behind : (t us ws : List ℕ) → differences (t ++ us) (t ++ ws) ≤ length us
 few-behind (x ∷ t) us ws =
-    subst (λ (b : Bool). cond b 0 1 + differences (t ++ us) (t ++ ws) ≤ length us) (sym (is-true (eqb x x) (eqb-refl x)))
+    subst (λ (b : Bool). cond b 0 1 + differences (t ++ us) (t ++ ws) ≤ length us)
+    (sym (is-true (eqb x x) (eqb-refl x)))
     (subst (λ n. n ≤ length us) (sym (zero-add (differences (t ++ us) (t ++ ws)))) (few-behind t us ws))
 few-behind [] [] ws = zero-le
 few-behind [] (u ∷ us) [] = zero-le
@@ -139,7 +147,12 @@ module _ (code : Code) (S : Solves code) where
   right-vanishes ws r = vanishes (code .r) ws (r .0) (r .1) (right-zero ws r)
 
   zero-right : (ws : List ℕ) → length ws ≡ 16 + code .r → AllWords ws → Sums-are-zero (code .r) ws → Right code ws
-  zero-right ws l a z = (l, a, ap (drop 16) same ∙ ap (λ n. drop n (t ++ code .checks t)) (sym tl) ∙ drop-front t (code .checks t))
+  zero-right ws l a z = (
+    l,
+    a,
+    ap (drop 16) same ∙ ap (λ n. drop n (t ++ code .checks t)) (sym tl)
+        ∙ drop-front t (code .checks t),
+  )
     where
       t : List ℕ
       t = take 16 ws

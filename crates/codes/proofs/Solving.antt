@@ -24,14 +24,16 @@ pub one-below : (w : ℕ) → 2 ≤ w → 1 < 2 ^ w
 one-below w h = omega (arith, two-below w h)
 
 -- what holds as the turn at k begins
-pub record Held (mul : ℕ → ℕ → ℕ) (w n r : ℕ) (ms : List Bool) (p : ℕ) (totals : List ℕ) (k over : ℕ) (sums : List ℕ) : Type 0 where
+pub record Held (mul : ℕ → ℕ → ℕ) (w n r : ℕ) (ms : List Bool) (p : ℕ) (totals : List ℕ) (k over : ℕ)
+    (sums : List ℕ) : Type 0 where
   pub scale : ℕ
   pub low : scale < 2 ^ w
   pub over-low : over < 2 ^ w
   pub undone : mul over scale ≡ 1
   pub left : (e : ℕ → ℕ) → Differs w mul n r ms totals e → (f : ℕ → ℕ) × Red mul w 2 n r ms p k scale sums e f
 
-module _ (w : ℕ) (mul : ℕ → ℕ → ℕ) (inv : ℕ → ℕ) (F : FieldLaws w mul inv) (wide : 2 ≤ w) (differ : Powers-differ mul 2 20) (n r : ℕ) where
+module _ (w : ℕ) (mul : ℕ → ℕ → ℕ) (inv : ℕ → ℕ) (F : FieldLaws w mul inv) (wide : 2 ≤ w)
+    (differ : Powers-differ mul 2 20) (n r : ℕ) where
   x-lt : (k : ℕ) → power mul 2 k < 2 ^ w
   x-lt = power-lt w mul inv F (one-below w wide) 2 (two-below w wide)
 
@@ -39,12 +41,14 @@ module _ (w : ℕ) (mul : ℕ → ℕ → ℕ) (inv : ℕ → ℕ) (F : FieldLaw
   pub differs-from : (blank : List ℕ) (ms : List Bool) (totals ws : List ℕ)
       → ((k : ℕ) → k < n → getD blank k 0 < 2 ^ w)
       → ((j : ℕ) → j < r → getD totals j 0 ≡ weighted mul 2 n j (λ i. getD blank i 0))
-      → Vanishes w mul n r ws → Keeps ws blank ms n → Differs w mul n r ms totals (λ i. bitXor (getD ws i 0) (getD blank i 0))
+      → Vanishes w mul n r ws → Keeps ws blank ms n
+      → Differs w mul n r ms totals (λ i. bitXor (getD ws i 0) (getD blank i 0))
   differs-from blank ms totals ws bl t v keeps = record {
     small = λ i h. xor-lt w _ _ (v .small i h) (bl i h);
     off = λ i h q. ap (λ u. bitXor u (getD blank i 0)) (keeps i h q) ∙ xor-self (getD blank i 0);
     total = λ j h. t j h ∙ ap (λ u. bitXor u (weighted mul 2 n j (λ i. getD blank i 0))) (sym (v .sums j h))
-        ∙ sym (weighted-xor w mul inv F (one-below w wide) 2 (two-below w wide) n j (λ i. getD ws i 0) (λ i. getD blank i 0) (v .small) bl);
+        ∙ sym (weighted-xor w mul inv F (one-below w wide) 2 (two-below w wide) n j (λ i. getD ws i 0)
+        (λ i. getD blank i 0) (v .small) bl);
   }
 
   module _ (n-le : n ≤ 20) (ms : List Bool) (p : ℕ) (p-lt : p < n) (totals : List ℕ) where
@@ -62,10 +66,12 @@ module _ (w : ℕ) (mul : ℕ → ℕ → ℕ) (inv : ℕ → ℕ) (F : FieldLaw
         ∙ F .mul-inv (step k) (step-lt k) (λ e. ne (sym (differ p k (omega arith) (omega arith) (xor-equal _ _ e))))
 
     -- what undoes two factors undoes their product
-    undone-more : (o s u v : ℕ) → o < 2 ^ w → s < 2 ^ w → u < 2 ^ w → v < 2 ^ w → mul o s ≡ 1 → mul u v ≡ 1 → mul (mul o u) (mul s v) ≡ 1
+    undone-more : (o s u v : ℕ) → o < 2 ^ w → s < 2 ^ w → u < 2 ^ w → v < 2 ^ w → mul o s ≡ 1 → mul u v ≡ 1
+        → mul (mul o u) (mul s v) ≡ 1
     undone-more o s u v ol sl ul vl os uv =
         F .mul-assoc o u (mul s v) ol ul (F .mul-lt s v sl vl)
-        ∙ ap (mul o) (ap (mul u) (F .mul-comm s v sl vl) ∙ sym (F .mul-assoc u v s ul vl sl) ∙ ap (λ t. mul t s) uv ∙ F .mul-one s sl)
+        ∙ ap (mul o) (ap (mul u) (F .mul-comm s v sl vl) ∙ sym (F .mul-assoc u v s ul vl sl) ∙ ap (λ t. mul t s) uv
+        ∙ F .mul-one s sl)
         ∙ os
 
     pub held-start : Held mul w n r ms p totals 0 1 totals
@@ -74,7 +80,11 @@ module _ (w : ℕ) (mul : ℕ → ℕ → ℕ) (inv : ℕ → ℕ) (F : FieldLaw
       low = one-below w wide;
       over-low = one-below w wide;
       undone = F .mul-one 1 (one-below w wide);
-      left = λ e d. (e, red-start w mul inv F (one-below w wide) 2 (two-below w wide) n r ms p p-lt e (d .small) totals (d .off) (d .total));
+      left = λ e d. (
+        e,
+        red-start w mul inv F (one-below w wide) 2 (two-below w wide) n r ms p p-lt e (d .small)
+            totals (d .off) (d .total),
+      );
     }
 
     pub held-skip : (k over : ℕ) (sums : List ℕ) → (getD ms k false ≡ false) ⊎ (k ≡ p)
@@ -86,7 +96,8 @@ module _ (w : ℕ) (mul : ℕ → ℕ → ℕ) (inv : ℕ → ℕ) (F : FieldLaw
       undone = h .undone;
       left = λ e d. (
         h .left e d .0,
-        red-skip w mul inv F (one-below w wide) 2 (two-below w wide) n r ms p p-lt e (d .small) k (h .scale) sums (h .left e d .0) why (h .left e d .1),
+        red-skip w mul inv F (one-below w wide) 2 (two-below w wide) n r ms p p-lt e (d .small) k (h .scale) sums
+            (h .left e d .0) why (h .left e d .1),
       );
     }
 
@@ -99,16 +110,21 @@ module _ (w : ℕ) (mul : ℕ → ℕ → ℕ) (inv : ℕ → ℕ) (F : FieldLaw
       scale = mul (h .scale) (step k);
       low = F .mul-lt (h .scale) _ (h .low) (step-lt k);
       over-low = F .mul-lt over _ (h .over-low) (F .inv-lt (step k) (step-lt k));
-      undone = undone-more over (h .scale) (inv (step k)) (step k) (h .over-low) (h .low) (F .inv-lt (step k) (step-lt k)) (step-lt k) (h .undone) (step-undone k l ne);
+      undone = undone-more over (h .scale) (inv (step k)) (step k) (h .over-low) (h .low)
+          (F .inv-lt (step k) (step-lt k)) (step-lt k) (h .undone) (step-undone k l ne);
       left = λ e d. (
         _,
-        red-take w mul inv F (one-below w wide) 2 (two-below w wide) n r ms p p-lt e (d .small) k (h .scale) sums sums′ (h .left e d .0) l (h .low) ne miss
-            (λ j q. next j (omega arith) ∙ ap (λ t. bitXor (getD sums t 0) (mul (power mul 2 k) (getD sums j 0))) (add-one j)) (h .left e d .1),
+        red-take w mul inv F (one-below w wide) 2 (two-below w wide) n r ms p p-lt e (d .small) k (h .scale) sums
+            sums′ (h .left e d .0) l (h .low) ne miss
+            (λ j q. next j (omega arith) ∙ ap (λ t. bitXor (getD sums t 0) (mul (power mul 2 k) (getD sums j 0)))
+            (add-one j)) (h .left e d .1),
       );
     }
 
-    pub held-end : (over : ℕ) (sums : List ℕ) → missingCount ms n ≤ r → getD ms p false ≡ true → Held mul w n r ms p totals n over sums
+    pub held-end : (over : ℕ) (sums : List ℕ) → missingCount ms n ≤ r → getD ms p false ≡ true
+        → Held mul w n r ms p totals n over sums
         → (e : ℕ → ℕ) → Differs w mul n r ms totals e → mul over (getD sums 0 0) ≡ e p
     held-end over sums few miss h e d =
-        red-end w mul inv F (one-below w wide) 2 (two-below w wide) n r ms p p-lt e (d .small) (h .scale) over sums (h .left e d .0) (h .low) (h .over-low) (h .undone)
+        red-end w mul inv F (one-below w wide) 2 (two-below w wide) n r ms p p-lt e (d .small) (h .scale) over sums
+        (h .left e d .0) (h .low) (h .over-low) (h .undone)
         (omega (arith, others-fewer ms p n p-lt miss)) (h .left e d .1)

@@ -24,7 +24,8 @@ unfoldable pub othersCount : List Bool → ℕ → ℕ → ℕ
 othersCount ms p zero = 0
 othersCount ms p (suc k) = othersCount ms p k + cond (getD ms k false) (cond (eqb k p) 0 1) 0
 
-others-take : (ms : List Bool) (p k : ℕ) → (k ≡ p → ⊥) → getD ms k false ≡ true → othersCount ms p (k + 1) ≡ othersCount ms p k + 1
+others-take : (ms : List Bool) (p k : ℕ) → (k ≡ p → ⊥) → getD ms k false ≡ true
+    → othersCount ms p (k + 1) ≡ othersCount ms p k + 1
 unfolding othersCount
 others-take ms p k ne miss =
     ap (othersCount ms p) (add-one k)
@@ -35,7 +36,8 @@ others-take ms p k ne miss =
     other true q = absurd (ne (eqb→eq k p (subst T (sym q) tt)))
     other false q = refl
 
-others-skip : (ms : List Bool) (p k : ℕ) → (getD ms k false ≡ false) ⊎ (k ≡ p) → othersCount ms p (k + 1) ≡ othersCount ms p k
+others-skip : (ms : List Bool) (p k : ℕ) → (getD ms k false ≡ false) ⊎ (k ≡ p)
+    → othersCount ms p (k + 1) ≡ othersCount ms p k
 unfolding othersCount
 others-skip ms p k why =
     ap (othersCount ms p) (add-one k) ∙ ap (λ t. othersCount ms p k + t) (none why) ∙ add-zero (othersCount ms p k)
@@ -54,7 +56,13 @@ pub others-fewer : (ms : List Bool) (p n : ℕ) → p < n → getD ms p false �
 unfolding othersCount missingCount
 others-fewer ms p zero l e = absurd (omega arith)
 others-fewer ms p (suc n) l e = elim (eq-or-lt-of-le (le-of-suc-le-suc l)) [
-  | inl q ↦ omega (arith, most n, ap (λ x. cond {A = ℕ} x 1 0) (sym (ap (λ k. getD ms k false) q) ∙ e), at n (subst (λ t. T (eqb n t)) (sym q) (eqb-refl n)))
+  | inl q ↦ omega (
+    arith,
+    most n,
+    ap (λ x. cond {A = ℕ} x 1 0) (sym (ap (λ k. getD ms k false) q) ∙ e),
+    at n
+        (subst (λ t. T (eqb n t)) (sym q) (eqb-refl n)),
+  )
   | inr k ↦ omega (arith, others-fewer ms p n k e, less (getD ms n false) (eqb n p))
 ]
   where
@@ -76,20 +84,23 @@ others-fewer ms p (suc n) l e = elim (eq-or-lt-of-le (le-of-suc-le-suc l)) [
     most (suc n) = omega (arith, most n, less (getD ms n false) (eqb n p))
 
 -- the words f that are left of the differences e, once the missing positions below k other than p are taken out
-pub record Red (mul : ℕ → ℕ → ℕ) (w a n r : ℕ) (ms : List Bool) (p k scale : ℕ) (sums : List ℕ) (e f : ℕ → ℕ) : Type 0 where
-  pub small : (i : ℕ) → i < n → f i < 2 ^ w
-  pub off : (i : ℕ) → i < n → getD ms i false ≡ false → f i ≡ 0
-  pub dead : (i : ℕ) → i < n → i < k → (i ≡ p → ⊥) → f i ≡ 0
-  pub own : f p ≡ mul scale (e p)
-  pub total : (j : ℕ) → j + othersCount ms p k < r → getD sums j 0 ≡ weighted mul a n j f
+pub record Red (mul : ℕ → ℕ → ℕ) (w a n r : ℕ) (ms : List Bool) (p k scale : ℕ) (sums : List ℕ) (e f : ℕ → ℕ) : Type 0
+  where
+    pub small : (i : ℕ) → i < n → f i < 2 ^ w
+    pub off : (i : ℕ) → i < n → getD ms i false ≡ false → f i ≡ 0
+    pub dead : (i : ℕ) → i < n → i < k → (i ≡ p → ⊥) → f i ≡ 0
+    pub own : f p ≡ mul scale (e p)
+    pub total : (j : ℕ) → j + othersCount ms p k < r → getD sums j 0 ≡ weighted mul a n j f
 
-module _ (w : ℕ) (mul : ℕ → ℕ → ℕ) (inv : ℕ → ℕ) (F : FieldLaws w mul inv) (one-lt : 1 < 2 ^ w) (a : ℕ) (a-lt : a < 2 ^ w)
+module _ (w : ℕ) (mul : ℕ → ℕ → ℕ) (inv : ℕ → ℕ) (F : FieldLaws w mul inv) (one-lt : 1 < 2 ^ w) (a : ℕ)
+    (a-lt : a < 2 ^ w)
     (n r : ℕ) (ms : List Bool) (p : ℕ) (p-lt : p < n) (e : ℕ → ℕ) (e-lt : (i : ℕ) → i < n → e i < 2 ^ w) where
   x-lt : (i : ℕ) → power mul a i < 2 ^ w
   x-lt = power-lt w mul inv F one-lt a a-lt
 
   weighted-step : (j y : ℕ) (d : ℕ → ℕ) → y < 2 ^ w → ((i : ℕ) → i < n → d i < 2 ^ w)
-      → weighted mul a n j (λ i. mul (bitXor (power mul a i) y) (d i)) ≡ bitXor (weighted mul a n (suc j) d) (mul y (weighted mul a n j d))
+      → weighted mul a n j (λ i. mul (bitXor (power mul a i) y) (d i))
+      ≡ bitXor (weighted mul a n (suc j) d) (mul y (weighted mul a n j d))
   unfolding weighted moment away
   weighted-step j y d q h =
       moment-step w mul inv F n (λ i. power mul a i) (λ i j. power mul a (i * j)) x-lt (λ i j. x-lt (i * j))
@@ -107,17 +118,21 @@ module _ (w : ℕ) (mul : ℕ → ℕ → ℕ) (inv : ℕ → ℕ) (F : FieldLaw
   }
 
   -- a missing position k other than p
-  pub red-take : (k scale : ℕ) (sums sums′ : List ℕ) (f : ℕ → ℕ) → k < n → scale < 2 ^ w → (k ≡ p → ⊥) → getD ms k false ≡ true
+  pub red-take : (k scale : ℕ) (sums sums′ : List ℕ) (f : ℕ → ℕ) → k < n → scale < 2 ^ w → (k ≡ p → ⊥)
+      → getD ms k false ≡ true
       → ((j : ℕ) → suc j < r → getD sums′ j 0 ≡ bitXor (getD sums (suc j) 0) (mul (power mul a k) (getD sums j 0)))
       → Red mul w a n r ms p k scale sums e f
-      → Red mul w a n r ms p (k + 1) (mul scale (bitXor (power mul a p) (power mul a k))) sums′ e (λ i. mul (bitXor (power mul a i) (power mul a k)) (f i))
+      → Red mul w a n r ms p (k + 1) (mul scale (bitXor (power mul a p) (power mul a k))) sums′ e
+      (λ i. mul (bitXor (power mul a i) (power mul a k)) (f i))
   red-take k scale sums sums′ f l s-lt ne miss step red = record {
     small = λ i h. F .mul-lt _ _ (x2-lt i k) (red .small i h);
     off = λ i h q. ap (mul _) (red .off i h q) ∙ zero-r w mul inv F _ (x2-lt i k);
     dead = λ i h q o. elim (ℕ-discrete i k) [
-      | yes z ↦ ap (λ t. mul (bitXor (power mul a t) (power mul a k)) (f i)) z ∙ ap (λ t. mul t (f i)) (xor-self (power mul a k))
+      | yes z ↦ ap (λ t. mul (bitXor (power mul a t) (power mul a k)) (f i)) z
+          ∙ ap (λ t. mul t (f i)) (xor-self (power mul a k))
           ∙ F .mul-comm 0 (f i) (pow-pos w) (red .small i h) ∙ zero-r w mul inv F (f i) (red .small i h)
-      | no z ↦ ap (mul (bitXor (power mul a i) (power mul a k))) (red .dead i h (omega arith) o) ∙ zero-r w mul inv F _ (x2-lt i k)
+      | no z ↦ ap (mul (bitXor (power mul a i) (power mul a k))) (red .dead i h (omega arith) o)
+          ∙ zero-r w mul inv F _ (x2-lt i k)
     ];
     own = ap (mul (bitXor (power mul a p) (power mul a k))) (red .own)
         ∙ sym (F .mul-assoc (bitXor (power mul a p) (power mul a k)) scale (e p) (x2-lt p k) s-lt (e-lt p p-lt))
@@ -154,12 +169,15 @@ module _ (w : ℕ) (mul : ℕ → ℕ → ℕ) (inv : ℕ → ℕ) (F : FieldLaw
 
   weighted-zero-any : (f : ℕ → ℕ) → ((i : ℕ) → i < n → f i < 2 ^ w) → weighted mul a n 0 f ≡ total f n
   unfolding weighted
-  weighted-zero-any f h = total-ext _ _ n (λ i q. ap (λ t. mul t (f i)) (power-none w mul inv F one-lt a a-lt i) ∙ F .mul-one (f i) (h i q))
+  weighted-zero-any f h = total-ext _ _ n (λ i q. ap (λ t. mul t (f i)) (power-none w mul inv F one-lt a a-lt i)
+      ∙ F .mul-one (f i) (h i q))
 
-  pub red-end : (scale over : ℕ) (sums : List ℕ) (f : ℕ → ℕ) → scale < 2 ^ w → over < 2 ^ w → mul over scale ≡ 1 → othersCount ms p n < r
+  pub red-end : (scale over : ℕ) (sums : List ℕ) (f : ℕ → ℕ) → scale < 2 ^ w → over < 2 ^ w → mul over scale ≡ 1
+      → othersCount ms p n < r
       → Red mul w a n r ms p n scale sums e f → mul over (getD sums 0 0) ≡ e p
   red-end scale over sums f s-lt o-lt one few red =
-      ap (mul over) (red .total 0 (omega arith) ∙ sum-zero ∙ total-single f n p p-lt (λ i h o. red .dead i h h o) ∙ red .own)
+      ap (mul over) (red .total 0 (omega arith) ∙ sum-zero ∙ total-single f n p p-lt (λ i h o. red .dead i h h o)
+      ∙ red .own)
       ∙ sym (F .mul-assoc over scale (e p) o-lt s-lt (e-lt p p-lt))
       ∙ ap (λ t. mul t (e p)) one
       ∙ F .mul-one (e p) (e-lt p p-lt)

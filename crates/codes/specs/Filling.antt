@@ -7,11 +7,14 @@
 --   Vanishes w mul n r ws           n words of w bits whose first r sums are 0
 --   FilledBySums ..                 out is the column of zero sums if there is one at all
 --   Differs ..                      words at the missing positions that have these sums
+--   SumsOf, FillsIn, MissingWord, takenOut   the same over the arithmetic of a field
 use mathlib.Core.Path.{_≡_}
 use mathlib.Core.List.{List}
 use mathlib.Core.Bool.{Bool, true, false, cond}
 use Prim.Native.Nat.{ℕ, zero, suc, _+_, _-_, _^_, _<_, _≤_}
 use lib.ListN.{length, getD, take, drop, replicate}
+use lib.Bits.{bitXor}
+use Rattle.field.specs.Laws.{Arithmetic}
 use Rattle.field.specs.Sums.{weighted}
 use Rattle.codes.specs.Code.{Code, Right}
 
@@ -40,9 +43,11 @@ pub record Vanishes (w : ℕ) (mul : ℕ → ℕ → ℕ) (n r : ℕ) (ws : List
   pub small : (i : ℕ) → i < n → getD ws i 0 < 2 ^ w
   pub sums : (j : ℕ) → j < r → weighted mul 2 n j (λ i. getD ws i 0) ≡ 0
 
--- Outside what is missing below n nothing of the blank column is changed, and every column of zero sums that has its words
+-- Outside what is missing below n nothing of the blank column is changed, and every column of zero sums that has its
+-- words
 -- is the answer, if at most r are missing.
-pub record FilledBySums (w : ℕ) (mul : ℕ → ℕ → ℕ) (n r : ℕ) (blank : List ℕ) (marks : List Bool) (out : List ℕ) : Type 0 where
+pub record FilledBySums (w : ℕ) (mul : ℕ → ℕ → ℕ) (n r : ℕ) (blank : List ℕ) (marks : List Bool) (out : List ℕ) : Type
+    0 where
   pub keeps : (i : ℕ) → getD marks i false ≡ false → getD out i 0 ≡ getD blank i 0
   pub rest : (i : ℕ) → n ≤ i → getD out i 0 ≡ getD blank i 0
   pub forced :
@@ -54,3 +59,21 @@ pub record Differs (w : ℕ) (mul : ℕ → ℕ → ℕ) (n r : ℕ) (marks : Li
   pub small : (i : ℕ) → i < n → e i < 2 ^ w
   pub off : (i : ℕ) → i < n → getD marks i false ≡ false → e i ≡ 0
   pub total : (j : ℕ) → j < r → getD totals j 0 ≡ weighted mul 2 n j e
+
+-- ---- as the solver promises it, over the arithmetic of a field
+
+-- the first r sums of the blank column
+abbrev pub SumsOf : Arithmetic → ℕ → List ℕ → List ℕ → Type 0
+SumsOf F r blank totals = (j : ℕ) → j < r → getD totals j 0 ≡ weighted (F .times) 2 (16 + r) j (λ i. getD blank i 0)
+
+abbrev pub FillsIn : Arithmetic → ℕ → List ℕ → List Bool → List ℕ → Type 0
+FillsIn F r blank marks out = FilledBySums (F .wide) (F .times) (16 + r) r blank marks out
+
+-- w is the word at position p that has these sums together with words at the other missing positions
+abbrev pub MissingWord : Arithmetic → ℕ → List ℕ → List Bool → ℕ → ℕ → Type 0
+MissingWord F r totals marks p w =
+    missingCount marks (16 + r) ≤ r → (e : ℕ → ℕ) → Differs (F .wide) (F .times) (16 + r) r marks totals e → w ≡ e p
+
+-- sum j of the words, each times the distance of its point from y
+abbrev pub takenOut : Arithmetic → List ℕ → ℕ → ℕ → ℕ
+takenOut F sums y j = bitXor (getD sums (j + 1) 0) (F .times y (getD sums j 0))

@@ -7,7 +7,8 @@
 --   fillings c               every column that agrees
 --   rebuild code c           the right column that agrees, if there is one
 --   answered code c          the twenty words and the flag that rebuild answers
---   Settles code c answer    the law of an answer: right, agreeing and the only one; or refused for cause
+--   rebuilt code column marks   the same, of a column and its marks
+--   Settles code column marks answer    the law of an answer: right, agreeing and the only one; or refused for cause
 use mathlib.Core.Path.{_≡_}
 use mathlib.Core.List.{List, [], _∷_, _++_, map}
 use mathlib.Core.Bool.{Bool, true, false, cond, _&&_}
@@ -84,6 +85,10 @@ abbrev pub answered : Code → List (Option ℕ) → List ℕ × Answer (Unit {0
 answered code c =
     cond (ltb (code .r) (missing c)) (replicate 20 0, Err (15, missing c ∷ [])) (offered code (rebuild code c))
 
+-- what rebuild answers to a column and its marks
+abbrev pub rebuilt : Code → List ℕ → List Bool → List ℕ × Answer (Unit {0})
+rebuilt code column marks = answered code (seen code column marks)
+
 pub record IsTheColumn (code : Code) (c : List (Option ℕ)) (ws : List ℕ) : Type 0 where
   pub few : missing c ≤ code .r
   pub right : Right code ws
@@ -98,6 +103,6 @@ pub record HasNoColumn (code : Code) (c : List (Option ℕ)) : Type 0 where
 abbrev pub Refuses : Code → List (Option ℕ) → ℕ × List ℕ → Type 0
 Refuses code c e = cond (eqb (e .0) 15) (code .r < missing c) (HasNoColumn code c)
 
-abbrev pub Settles : Code → List (Option ℕ) → List ℕ × Answer (Unit {0}) → Type 0
-Settles code c (out, Ok _) = IsTheColumn code c (take (16 + code .r) out)
-Settles code c (out, Err e) = Refuses code c e
+abbrev pub Settles : Code → List ℕ → List Bool → List ℕ × Answer (Unit {0}) → Type 0
+Settles code column marks (out, Ok _) = IsTheColumn code (seen code column marks) (take (16 + code .r) out)
+Settles code column marks (out, Err e) = Refuses code (seen code column marks) e

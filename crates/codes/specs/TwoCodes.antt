@@ -49,4 +49,5 @@ fourCheck = record { r = 4; checks = bySums 4 }
 -- A column is right exactly when its sums for j below r are 0.
 abbrev pub Sums-make-right : ℕ → Code → Type 0
 Sums-make-right r code =
-    (ws : List ℕ) → length ws ≡ 16 + r → AllWords ws → (Right code ws → Sums-are-zero r ws) × (Sums-are-zero r ws → Right code ws)
+    (ws : List ℕ) → length ws ≡ 16 + r → AllWords ws
+    → (Right code ws → Sums-are-zero r ws) × (Sums-are-zero r ws → Right code ws)

@@ -1,11 +1,8 @@
 // The trait of check codes: what a code means, its law, and its calls.
 ghost use mathlib.Core.Path.{_≡_};
-ghost use mathlib.Core.List.{List, _++_};
-ghost use Prim.Native.Nat.{ℕ, _+_, _-_, _≤_};
-ghost use lib.ListN.{replicate};
 ghost use Rattle.refusal.specs.Tells.{told};
-ghost use Rattle.codes.specs.Code.{Code, Lawful};
-ghost use Rattle.codes.specs.Rebuild.{seen, answered, Settles};
+ghost use Rattle.codes.specs.Code.{Code, Lawful, checkFour};
+ghost use Rattle.codes.specs.Rebuild.{Settles, rebuilt};
 ghost use Rattle.codes.specs.Filling.{Filled};
 use crate::column::count_missing;
 use crate::column::front;
@@ -23,18 +20,19 @@ pub trait CheckCode {
 
     // The check words of sixteen words, and zeros up to four.
     fn check_words(&self, words: [u16; 16]) -> [u16; 4]
-        ensures { λ cs. ⌜ cs ≡ code (now (self .entry)) .checks words ++ replicate (4 - code (now (self .entry)) .r) 0 ⌝ };
+        ensures { λ cs. ⌜ cs ≡ checkFour (code (now (self .entry))) words ⌝ };
 
     // The column with each missing word as it must be, if at most r are missing and there is a right column at all.
     // Rebuild checks that there is.
     fn fill(&self, column: [u16; 20], marks: [bool; 20]) -> [u16; 20]
         ensures { λ out. ⌜ Filled (code (now (self .entry))) column marks out ⌝ };
 
-    // The right column that agrees with the words not marked missing, and the flag beside it; twenty zeros beside a refusal.
+    // The right column that agrees with the words not marked missing, and the flag beside it.
+    // Twenty zeros stand beside a refusal.
     fn rebuild(&self, column: [u16; 20], marks: [bool; 20]) -> ([u16; 20], Result<(), Refusal>)
-        ensures words { λ a. ⌜ a .0 ≡ answered (code (now (self .entry))) (seen (code (now (self .entry))) column marks) .0 ⌝ }
-        ensures flag { λ a. ⌜ told (a .1) ≡ answered (code (now (self .entry))) (seen (code (now (self .entry))) column marks) .1 ⌝ }
-        ensures settles { λ a. ⌜ Settles (code (now (self .entry))) (seen (code (now (self .entry))) column marks) (a .0, told (a .1)) ⌝ }
+        ensures words { λ a. ⌜ a .0 ≡ rebuilt (code (now (self .entry))) column marks .0 ⌝ }
+        ensures flag { λ a. ⌜ told (a .1) ≡ rebuilt (code (now (self .entry))) column marks .1 ⌝ }
+        ensures settles { λ a. ⌜ Settles (code (now (self .entry))) column marks (a .0, told (a .1)) ⌝ }
     {
         let r = self.r();
         let count = count_missing(marks, 16 + r);

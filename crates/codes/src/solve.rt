@@ -2,10 +2,8 @@
 ghost use mathlib.Core.Path.{_≡_};
 ghost use mathlib.Core.Bool.{true, false};
 ghost use Prim.Native.Nat.{ℕ, _+_, _^_, _<_, _≤_};
-ghost use lib.Bits.{bitXor};
 ghost use lib.ListN.{getD};
-ghost use Rattle.field.specs.Sums.{weighted};
-ghost use Rattle.codes.specs.Filling.{Differs, FilledBySums, missingCount};
+ghost use Rattle.codes.specs.Filling.{FillsIn, MissingWord, SumsOf, takenOut};
 use field::Field;
 
 // The blank column with each missing word as its sums ask for it; `totals` are the sums of the blank column.
@@ -17,10 +15,10 @@ pub fn filled_in<F: Field>(
     totals: [u16; 4],
 ) -> [u16; 20]
     requires few { ⌜ r ≤ 4 ⌝ }
-    requires fits { ⌜ ((k : ℕ) → k < 16 + r → getD blank k 0 < 2 ^ F·Field .wide (now field)) ⌝ }
+    requires fits { ⌜ ((k : ℕ) → k < 16 + r → getD blank k 0 < 2 ^ (F·Field .means (now field) .wide)) ⌝ }
     requires zeros { ⌜ ((k : ℕ) → k < 16 + r → getD marks k false ≡ true → getD blank k 0 ≡ 0) ⌝ }
-    requires sums { ⌜ ((j : ℕ) → j < r → getD totals j 0 ≡ weighted (F·Field .times (now field)) 2 (16 + r) j (λ i. getD blank i 0)) ⌝ }
-    ensures { λ out. ⌜ FilledBySums (F·Field .wide (now (field .entry))) (F·Field .times (now (field .entry))) (16 + r) r blank marks out ⌝ }
+    requires sums { ⌜ SumsOf (F·Field .means (now field)) r blank totals ⌝ }
+    ensures { λ out. ⌜ FillsIn (F·Field .means (now (field .entry))) r blank marks out ⌝ }
 {
     let mut out = blank;
     for k in 0..16 + r {
@@ -43,7 +41,7 @@ fn missing_word<F: Field>(
     requires few { ⌜ r ≤ 4 ⌝ }
     requires within { ⌜ at < 16 + r ⌝ }
     requires lost { ⌜ getD marks at false ≡ true ⌝ }
-    ensures { λ w. ⌜ (missingCount marks (16 + r) ≤ r → (e : ℕ → ℕ) → Differs (F·Field .wide (now (field .entry))) (F·Field .times (now (field .entry))) (16 + r) r marks totals e → w ≡ e at) ⌝ }
+    ensures { λ w. ⌜ MissingWord (F·Field .means (now (field .entry))) r totals marks at w ⌝ }
 {
     let mut sums = totals;
     let mut scale: u16 = 1;
@@ -60,7 +58,7 @@ fn missing_word<F: Field>(
 
 // The sums with each word times the distance of its point from y.
 fn without<F: Field>(field: &F, sums: [u16; 4], y: u16) -> [u16; 4]
-    ensures { λ s. ⌜ ((j : ℕ) → j < 3 → getD s j 0 ≡ bitXor (getD sums (j + 1) 0) (F·Field .times (now (field .entry)) y (getD sums j 0))) ⌝ }
+    ensures { λ s. ⌜ ((j : ℕ) → j < 3 → getD s j 0 ≡ takenOut (F·Field .means (now (field .entry))) sums y j) ⌝ }
 {
     [
         sums[1] ^ field.product(y, sums[0]),

@@ -1,4 +1,4 @@
-// A trial of the check codes: outside vectors, every choice of missing words, falsified words, and what lies behind a column.
+// A trial of the check codes: outside vectors, every choice of missing words, falsified words, what lies behind.
 mod columns;
 mod tries;
 

@@ -1,4 +1,5 @@
--- Maps of numbers that take exclusive-or to exclusive-or, and the product by tables, which is one in each factor. Assumes nothing.
+-- Maps of numbers that take exclusive-or to exclusive-or, and the product by tables, which is one in each factor.
+-- Assumes nothing.
 use mathlib.Core.Path.{_≡_, refl, sym, _∙_, ap, ap₂, subst}
 use Prim.Native.Nat.{ℕ, zero, suc, _+_, _*_, _/_, _%_, _^_, _<_, _≤_}
 use native.Mathlib.Nat.{add-zero, mul-zero, mul-one, pow-suc, mul-assoc, pow-le-pow-right, lt-of-lt-of-le}
@@ -7,7 +8,8 @@ use lib.Pow.{pow-pos}
 use lib.Dec.{lit<, lit≤}
 use lib.Bits.{bitXor, xor-block, xor-comm, xor-shr, xor-mod, xor-zero-r, xor-lt, xor-shifted}
 use Rattle.field.specs.Polynomials.{double, times, product, wordProduct}
-use Rattle.field.proofs.Products.{xor-swap, times-xor-l, times-xor-r, times-double, product-xor-l, product-xor-r}
+use Rattle.field.proofs.ExclusiveOr.{xor-swap}
+use Rattle.field.proofs.Products.{times-xor-l, times-xor-r, times-double, product-xor-l, product-xor-r}
 use Rattle.field.proofs.Linear.{Linear, linear-agree}
 use Rattle.field.proofs.Computed.{same-at}
 
@@ -25,7 +27,8 @@ add-up s = record { adds = at }
   where
     at : (x y : ℕ) → bitXor x y * 2 ^ s ≡ bitXor (x * 2 ^ s) (y * 2 ^ s)
     at x y =
-        let e : bitXor (x * 2 ^ s + 0) (y * 2 ^ s + 0) ≡ bitXor x y * 2 ^ s + 0 = xor-block s x y 0 0 (pow-pos s) (pow-pos s) in
+        let e : bitXor (x * 2 ^ s + 0) (y * 2 ^ s + 0)
+        ≡ bitXor x y * 2 ^ s + 0 = xor-block s x y 0 0 (pow-pos s) (pow-pos s) in
         simp add-zero at (sym e)
 
 -- digit of sixteen at a place
@@ -51,7 +54,8 @@ unfolding double
 double-plain v = ap (bitXor (v * 2)) (let z : 0 * (v / 2 ^ 15 % 2) ≡ 0 = omega arith in z) ∙ xor-zero-r (v * 2)
 
 times-up : (s k a n : ℕ) → times 15 0 k (a * 2 ^ s) n ≡ times 15 0 k a n * 2 ^ s
-times-up zero k a n = ap (λ z. times 15 0 k z n) (let z : a * 1 ≡ a = omega arith in z) ∙ (let z : times 15 0 k a n ≡ times 15 0 k a n * 1 = omega arith in z)
+times-up zero k a n = ap (λ z. times 15 0 k z n) (let z : a * 1 ≡ a = omega arith in z)
+    ∙ (let z : times 15 0 k a n ≡ times 15 0 k a n * 1 = omega arith in z)
 times-up (suc s) k a n =
     ap (λ z. times 15 0 k z n) (twice a ∙ sym (double-plain (a * 2 ^ s)))
     ∙ times-double 15 0 k (a * 2 ^ s) n ∙ double-plain (times 15 0 k (a * 2 ^ s) n)
@@ -78,11 +82,14 @@ plain-lt : (k a n : ℕ) → a < 2 ^ 16 → times 15 0 k a n < 2 ^ (16 + k)
 unfolding times
 plain-lt zero a n h = pow-pos (16 + 0)
 plain-lt (suc k) a n h =
-    let up : 2 ^ (16 + suc k) ≡ 2 ^ (16 + k) * 2 = ap (λ z. 2 ^ z) (let z : 16 + suc k ≡ suc (16 + k) = omega arith in z) ∙ pow-suc 2 (16 + k) in
-    let wide : 2 ^ 16 ≤ 2 ^ (16 + suc k) = pow-le-pow-right {n = 2} (lit≤ tt) (let z : 16 ≤ 16 + suc k = omega arith in z) in
+    let up : 2 ^ (16 + suc k) ≡ 2 ^ (16 + k) * 2 = ap (λ z. 2 ^ z)
+    (let z : 16 + suc k ≡ suc (16 + k) = omega arith in z) ∙ pow-suc 2 (16 + k) in
+    let wide : 2 ^ 16 ≤ 2 ^ (16 + suc k) = pow-le-pow-right {n = 2} (lit≤ tt)
+    (let z : 16 ≤ 16 + suc k = omega arith in z) in
     let one : n % 2 < 2 = omega arith in
     xor-lt (16 + suc k) (a * (n % 2)) _ (lt-of-lt-of-le (bit-lt a (n % 2) 16 one h) wide)
-    (subst (λ z. z < 2 ^ (16 + suc k)) (sym (double-plain (times 15 0 k a (n / 2)))) (omega (arith, up, plain-lt k a (n / 2) h)))
+    (subst (λ z. z < 2 ^ (16 + suc k)) (sym (double-plain (times 15 0 k a (n / 2))))
+    (omega (arith, up, plain-lt k a (n / 2) h)))
 
 pub nibble-lt : (a n : ℕ) → a < 65536 → times 15 0 4 a n < 1048576
 nibble-lt a n h = plain-lt 4 a n h
@@ -91,11 +98,13 @@ nibble-lt a n h = plain-lt 4 a n h
 
 abbrev pub whole : ℕ → ℕ → ℕ
 whole a b =
-    bitXor (bitXor (bitXor (times 15 0 4 a (b % 16)) (times 15 0 4 a (b / 16 % 16) * 16)) (times 15 0 4 a (b / 256 % 16) * 256))
+    bitXor (bitXor (bitXor (times 15 0 4 a (b % 16)) (times 15 0 4 a (b / 16 % 16) * 16))
+    (times 15 0 4 a (b / 256 % 16) * 256))
     (times 15 0 4 a (b / 4096 % 16) * 4096)
 
 abbrev pub back : ℕ → ℕ
-back v = bitXor (bitXor (v % 65536) (times 15 0x1100B 8 0x100B (v / 65536 % 256))) (times 15 0x1100B 8 0x1BBB (v / 16777216))
+back v = bitXor (bitXor (v % 65536) (times 15 0x1100B 8 0x100B (v / 65536 % 256)))
+    (times 15 0x1100B 8 0x1BBB (v / 16777216))
 
 back-add : Additive back
 back-add =
@@ -108,7 +117,8 @@ part-right a s = add-then (add-up s) (add-then (add-right 0 4 a) (add-digit s))
 right-add : (a : ℕ) → Additive (λ b. back (whole a b))
 right-add a =
     add-then back-add
-    (add-sum (add-sum (add-sum (add-then (add-right 0 4 a) (add-low 4)) (part-right a 4)) (part-right a 8)) (part-right a 12))
+    (add-sum (add-sum (add-sum (add-then (add-right 0 4 a) (add-low 4)) (part-right a 4)) (part-right a 8))
+    (part-right a 12))
 
 part-left : (n s : ℕ) → Additive (λ a. times 15 0 4 a n * 2 ^ s)
 part-left n s = add-then (add-up s) (add-left 0 4 n)
@@ -116,24 +126,30 @@ part-left n s = add-then (add-up s) (add-left 0 4 n)
 left-add : (b : ℕ) → Additive (λ a. back (whole a b))
 left-add b =
     add-then back-add
-    (add-sum (add-sum (add-sum (add-left 0 4 (b % 16)) (part-left (b / 16 % 16) 4)) (part-left (b / 256 % 16) 8)) (part-left (b / 4096 % 16) 12))
+    (add-sum (add-sum (add-sum (add-left 0 4 (b % 16)) (part-left (b / 16 % 16) 4)) (part-left (b / 256 % 16) 8))
+    (part-left (b / 4096 % 16) 12))
 
-corners : (k : ℕ) → k < 256 → back (whole (2 ^ (k % 16)) (2 ^ (k / 16))) ≡ product 15 0x1100B (2 ^ (k % 16)) (2 ^ (k / 16))
+corners : (k : ℕ) → k < 256 → back (whole (2 ^ (k % 16)) (2 ^ (k / 16)))
+    ≡ product 15 0x1100B (2 ^ (k % 16)) (2 ^ (k / 16))
 unfolding product times double
-corners = same-at (λ k. back (whole (2 ^ (k % 16)) (2 ^ (k / 16)))) (λ k. product 15 0x1100B (2 ^ (k % 16)) (2 ^ (k / 16))) 256 tt
+corners = same-at (λ k. back (whole (2 ^ (k % 16)) (2 ^ (k / 16))))
+    (λ k. product 15 0x1100B (2 ^ (k % 16)) (2 ^ (k / 16))) 256 tt
 
 corner : (i j : ℕ) → i < 16 → j < 16 → back (whole (2 ^ j) (2 ^ i)) ≡ product 15 0x1100B (2 ^ j) (2 ^ i)
 corner i j hi hj =
     let k : 16 * i + j < 256 = omega arith in
     let low : (16 * i + j) % 16 ≡ j = omega arith in
     let high : (16 * i + j) / 16 ≡ i = omega arith in
-    ap₂ (λ u v. back (whole (2 ^ u) (2 ^ v))) (sym low) (sym high) ∙ corners (16 * i + j) k ∙ ap₂ (λ u v. product 15 0x1100B (2 ^ u) (2 ^ v)) low high
+    ap₂ (λ u v. back (whole (2 ^ u) (2 ^ v))) (sym low) (sym high) ∙ corners (16 * i + j) k
+    ∙ ap₂ (λ u v. product 15 0x1100B (2 ^ u) (2 ^ v)) low high
 
 pub product-by-tables : (a b : ℕ) → a < 65536 → b < 65536 → back (whole a b) ≡ wordProduct a b
 unfolding wordProduct
 product-by-tables a b ha hb =
-    linear-agree 16 (λ y. back (whole a y)) (product 15 0x1100B a) (λ x y p q. right-add a .adds x y) (λ x y p q. product-xor-r 15 0x1100B a x y)
+    linear-agree 16 (λ y. back (whole a y)) (product 15 0x1100B a) (λ x y p q. right-add a .adds x y)
+    (λ x y p q. product-xor-r 15 0x1100B a x y)
     (λ i hi.
-    linear-agree 16 (λ x. back (whole x (2 ^ i))) (λ x. product 15 0x1100B x (2 ^ i)) (λ x y p q. left-add (2 ^ i) .adds x y)
+    linear-agree 16 (λ x. back (whole x (2 ^ i))) (λ x. product 15 0x1100B x (2 ^ i))
+    (λ x y p q. left-add (2 ^ i) .adds x y)
     (λ x y p q. product-xor-l 15 0x1100B x y (2 ^ i)) (λ j hj. corner i j hi hj) a ha)
     b hb

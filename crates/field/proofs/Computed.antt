@@ -1,4 +1,5 @@
--- Rules that hold at each number below another, or at each entry of a table, by a test that antt computes. Assumes nothing.
+-- Rules that hold at each number below another, or at each entry of a table, by a test that antt computes. Assumes
+-- nothing.
 use mathlib.Core.Path.{_≡_, sym, _∙_, ap, subst}
 use mathlib.Core.List.{List, [], _∷_}
 use mathlib.Core.Bool.{Bool, true, false}
@@ -40,7 +41,8 @@ abbrev pub every : (ℕ → ℕ → Bool) → ℕ → List ℕ → Bool
 every f i [] = true
 every f i (x ∷ xs) = both (f i x) (every f (suc i) xs)
 
-from : (f : ℕ → ℕ → Bool) (xs : List ℕ) (i : ℕ) → T (every f i xs) → (k : ℕ) → k < length xs → T (f (i + k) (getD xs k 0))
+from : (f : ℕ → ℕ → Bool) (xs : List ℕ) (i : ℕ) → T (every f i xs) → (k : ℕ) → k < length xs
+    → T (f (i + k) (getD xs k 0))
 from f [] i t k h = absurd (not-suc-le-zero h)
 from f (x ∷ xs) i t zero h = subst (λ (m : ℕ). T (f m x)) (sym (add-zero i)) (both-left (f i x) (every f (suc i) xs) t)
 from f (x ∷ xs) i t (suc k) h =

@@ -16,7 +16,8 @@ use Rattle.field.proofs.TwoFields.{word-field}
 -- e is 0 at two equal positions, and undoes the sum of their points at others
 unfoldable pub isGap : ℕ → ℕ → ℕ → Bool
 isGap i k e =
-    cond (eqb i k) (eqb e 0) (ltb e 65536 && eqb (wordProduct (bitXor (power wordProduct 2 i) (power wordProduct 2 k)) e) 1)
+    cond (eqb i k) (eqb e 0) (ltb e 65536 && eqb
+    (wordProduct (bitXor (power wordProduct 2 i) (power wordProduct 2 k)) e) 1)
 
 zero-inverse : wordInverse 0 ≡ 0
 unfolding wordInverse inverse squares product times double
@@ -47,7 +48,8 @@ true-is : (b : Bool) → T b → b ≡ true
 true-is true t = refl
 true-is false t = absurd t
 
-pub gap-inverse : (i k e : ℕ) → T (isGap i k e) → e ≡ wordInverse (bitXor (power wordProduct 2 i) (power wordProduct 2 k))
+pub gap-inverse : (i k e : ℕ) → T (isGap i k e)
+    → e ≡ wordInverse (bitXor (power wordProduct 2 i) (power wordProduct 2 k))
 gap-inverse i k e t = go (eqb i k) refl (opened t)
   where
     d : ℕ
@@ -56,15 +58,20 @@ gap-inverse i k e t = go (eqb i k) refl (opened t)
     p-lt : (n : ℕ) → power wordProduct 2 n < 2 ^ 16
     p-lt = power-lt 16 wordProduct wordInverse word-field (lit< tt) 2 (lit< tt)
 
-    opened : T (isGap i k e) → T (cond (eqb i k) (eqb e 0) (ltb e 65536 && eqb (wordProduct (bitXor (power wordProduct 2 i) (power wordProduct 2 k)) e) 1))
+    opened : T (isGap i k e) → T (cond (eqb i k) (eqb e 0)
+        (ltb e 65536 && eqb (wordProduct (bitXor (power wordProduct 2 i) (power wordProduct 2 k)) e) 1))
     opened t = unfold isGap in t
 
     go : (b : Bool) → eqb i k ≡ b
-        → T (cond b (eqb e 0) (ltb e 65536 && eqb (wordProduct (bitXor (power wordProduct 2 i) (power wordProduct 2 k)) e) 1))
+        → T (cond b (eqb e 0) (ltb e 65536 && eqb
+        (wordProduct (bitXor (power wordProduct 2 i) (power wordProduct 2 k)) e) 1))
         → e ≡ wordInverse (bitXor (power wordProduct 2 i) (power wordProduct 2 k))
     go true q t =
-        eqb→eq e 0 t ∙ sym (ap wordInverse (ap (λ n. bitXor (power wordProduct 2 n) (power wordProduct 2 k)) (eqb→eq i k (subst T (sym q) tt)) ∙ xor-self (power wordProduct 2 k)) ∙ zero-inverse)
+        eqb→eq e 0 t ∙ sym (ap wordInverse
+        (ap (λ n. bitXor (power wordProduct 2 n) (power wordProduct 2 k)) (eqb→eq i k (subst T (sym q) tt))
+        ∙ xor-self (power wordProduct 2 k)) ∙ zero-inverse)
     go false q t =
-        let both = and-both (ltb e 65536) (eqb (wordProduct (bitXor (power wordProduct 2 i) (power wordProduct 2 k)) e) 1) t in
+        let both = and-both (ltb e 65536)
+        (eqb (wordProduct (bitXor (power wordProduct 2 i) (power wordProduct 2 k)) e) 1) t in
         inverse-only _ e (xor-lt 16 _ _ (p-lt i) (p-lt k)) (ltb-true e 65536 (true-is (ltb e 65536) (both .0)))
         (eqb→eq (wordProduct (bitXor (power wordProduct 2 i) (power wordProduct 2 k)) e) 1 (both .1))

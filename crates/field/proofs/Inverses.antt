@@ -7,18 +7,8 @@ use lib.Bits.{bitXor, xor-assoc, xor-self}
 use Rattle.field.specs.Polynomials.{product, squares, inverse}
 use Rattle.field.specs.Laws.{FieldLaws}
 use Rattle.field.proofs.Linear.{Linear, linear-agree, combine, combine-xor}
-use Rattle.field.proofs.Products.{
-  xor-swap,
-  xor-half,
-  xor-twice,
-  product-lt,
-  product-comm,
-  product-assoc,
-  product-xor-l,
-  product-xor-r,
-  product-one-l,
-  product-zero-r,
-}
+use Rattle.field.proofs.ExclusiveOr.{xor-swap, xor-half, xor-twice}
+use Rattle.field.proofs.Products.{product-lt, product-comm, product-assoc, product-xor-l, product-xor-r, product-one-l, product-zero-r}
 
 -- a squared n times
 unfoldable pub frob : ℕ → ℕ → ℕ → ℕ → ℕ
@@ -33,9 +23,11 @@ module _ (h m low : ℕ) (top : m ≡ 1 * 2 ^ suc h + low) (low-lt : low < 2 ^ s
       → product h m (bitXor a b) (bitXor a b) ≡ bitXor (product h m a a) (product h m b b)
   sq-xor a b p q =
       product-xor-l h m a b (bitXor a b)
-      ∙ ap₂ bitXor (product-xor-r h m a a b) (product-xor-r h m b a b ∙ ap (λ x. bitXor x (product h m b b)) (product-comm h m b a q p))
+      ∙ ap₂ bitXor (product-xor-r h m a a b) (product-xor-r h m b a b
+      ∙ ap (λ x. bitXor x (product h m b b)) (product-comm h m b a q p))
       ∙ xor-assoc (product h m a a) (product h m a b) _
-      ∙ ap (bitXor (product h m a a)) (sym (xor-assoc (product h m a b) (product h m a b) _) ∙ ap (λ x. bitXor x (product h m b b)) (xor-self (product h m a b)))
+      ∙ ap (bitXor (product h m a a)) (sym (xor-assoc (product h m a b) (product h m a b) _)
+      ∙ ap (λ x. bitXor x (product h m b b)) (xor-self (product h m a b)))
 
   frob-lt : (n a : ℕ) → a < 2 ^ suc h → frob h m n a < 2 ^ suc h
   unfolding frob
@@ -59,7 +51,8 @@ module _ (h m low : ℕ) (top : m ≡ 1 * 2 ^ suc h + low) (low-lt : low < 2 ^ s
       sym (product-assoc h m low top low-lt a a (squares h m n (product h m a a)) p p (squares-lt n _ o (sq-lt a p)))
       ∙ squares-frob n (product h m a a) o (sq-lt a p)
 
-  -- the two tests of the polynomial: the words are the roots of a ^ (2 ^ (h + 1)) = a, and only 0 and 1 are their own squares
+  -- the two tests of the polynomial: the words are the roots of a ^ (2 ^ (h + 1)) = a, and only 0 and 1 are their
+  -- own squares
   module _ (one-lt : 1 < 2 ^ suc h) (rows : List ℕ)
       (turn : (i : ℕ) → i < suc h → frob h m (suc h) (2 ^ i) ≡ 2 ^ i)
       (kernel : (i : ℕ) → i < suc h → combine rows (bitXor (product h m (2 ^ i) (2 ^ i)) (2 ^ i)) ≡ 2 ^ i / 2 * 2) where
@@ -69,7 +62,8 @@ module _ (h m low : ℕ) (top : m ≡ 1 * 2 ^ suc h + low) (low-lt : low < 2 ^ s
     kernels : (a : ℕ) → a < 2 ^ suc h → combine rows (bitXor (product h m a a) a) ≡ a / 2 * 2
     kernels =
         linear-agree (suc h) (λ a. combine rows (bitXor (product h m a a) a)) (λ a. a / 2 * 2)
-        (λ a b p q. ap (combine rows) (ap (λ x. bitXor x (bitXor a b)) (sq-xor a b p q) ∙ xor-swap (product h m a a) (product h m b b) a b)
+        (λ a b p q. ap (combine rows) (ap (λ x. bitXor x (bitXor a b)) (sq-xor a b p q)
+        ∙ xor-swap (product h m a a) (product h m b b) a b)
         ∙ combine-xor rows _ _)
         (λ a b p q. ap (λ x. x * 2) (xor-half a b) ∙ xor-twice (a / 2) (b / 2)) kernel
 

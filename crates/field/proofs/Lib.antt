@@ -1,3 +1,4 @@
+pub mod ExclusiveOr
 pub mod Products
 pub mod Linear
 pub mod Computed

@@ -6,7 +6,7 @@ use native.Mathlib.Nat.{one-mul, mod-lt, pow-succ', div-lt-iff-lt-mul, div-add-m
 use native.Mathlib.Omega.{arith}
 use lib.Pow.{pow-pos, pow-lt}
 use lib.Bits.{bitXor, xor-self, xor-shifted}
-use Rattle.field.proofs.Products.{xor-swap, xor-low, xor-half, bit-right, mod2-lt}
+use Rattle.field.proofs.ExclusiveOr.{xor-swap, xor-low, xor-half, bit-right, mod2-lt}
 
 -- a map of words that takes sums to sums
 abbrev pub Linear : ℕ → (ℕ → ℕ) → Type 0
@@ -31,7 +31,8 @@ linear-agree w f g lf lg e = go w (le-refl w)
     step k a (suc (suc x)) r n p q c ih = absurd (omega arith)
 
     go : (k : ℕ) → k ≤ w → (a : ℕ) → a < 2 ^ k → f a ≡ g a
-    go zero n a p = let z : a < 1 = p in let d : a ≡ 0 = omega arith in ap f d ∙ zero-at f lf ∙ sym (zero-at g lg) ∙ sym (ap g d)
+    go zero n a p = let z : a < 1 = p in let d : a ≡ 0 = omega arith in ap f d ∙ zero-at f lf ∙ sym (zero-at g lg)
+        ∙ sym (ap g d)
     go (suc k) n a p =
         step k a (a / 2 ^ k) (a % 2 ^ k) n (div-lt-iff-lt-mul (pow-pos k) .1 (subst (λ x. a < x) (pow-succ' 2 k) p))
         (mod-lt a (pow-pos k)) (sym (div-add-mod' a (2 ^ k)))

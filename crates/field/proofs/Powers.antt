@@ -8,7 +8,8 @@ use Rattle.field.specs.Sums.{total, nonzeros, power, weighted}
 use Rattle.field.proofs.Totals.{total-ext, total-xor}
 use Rattle.field.proofs.Vandermonde.{vanish, moment}
 
-module _ (w : ℕ) (mul : ℕ → ℕ → ℕ) (inv : ℕ → ℕ) (F : FieldLaws w mul inv) (one-lt : 1 < 2 ^ w) (a : ℕ) (a-lt : a < 2 ^ w) where
+module _ (w : ℕ) (mul : ℕ → ℕ → ℕ) (inv : ℕ → ℕ) (F : FieldLaws w mul inv) (one-lt : 1 < 2 ^ w) (a : ℕ)
+    (a-lt : a < 2 ^ w) where
   pub power-lt : (n : ℕ) → power mul a n < 2 ^ w
   unfolding power
   power-lt zero = one-lt
@@ -18,7 +19,8 @@ module _ (w : ℕ) (mul : ℕ → ℕ → ℕ) (inv : ℕ → ℕ) (F : FieldLaw
   unfolding power
   power-add n zero = ap (power mul a) (add-zero n) ∙ sym (F .mul-one _ (power-lt n))
   power-add n (suc k) =
-      ap (power mul a) (add-suc n k) ∙ ap (mul a) (power-add n k) ∙ sym (F .mul-assoc a (power mul a k) (power mul a n) a-lt (power-lt k) (power-lt n))
+      ap (power mul a) (add-suc n k) ∙ ap (mul a) (power-add n k)
+      ∙ sym (F .mul-assoc a (power mul a k) (power mul a n) a-lt (power-lt k) (power-lt n))
 
   pub power-suc : (i j : ℕ) → power mul a (i * suc j) ≡ mul (power mul a i) (power mul a (i * j))
   power-suc i j = ap (power mul a) (mul-suc i j) ∙ power-add (i * j) i
@@ -33,7 +35,8 @@ module _ (w : ℕ) (mul : ℕ → ℕ → ℕ) (inv : ℕ → ℕ) (F : FieldLaw
       → (i : ℕ) → i < n → d i ≡ 0
   unfolding weighted moment
   few n distinct r d h s z =
-      vanish w mul inv F n (λ i. power mul a i) (λ i j. power mul a (i * j)) power-lt (λ i j. power-lt (i * j)) power-none power-suc distinct r d h s z
+      vanish w mul inv F n (λ i. power mul a i) (λ i j. power mul a (i * j)) power-lt (λ i j. power-lt (i * j))
+      power-none power-suc distinct r d h s z
 
   pub weighted-xor : (n j : ℕ) (f g : ℕ → ℕ) → ((i : ℕ) → i < n → f i < 2 ^ w) → ((i : ℕ) → i < n → g i < 2 ^ w)
       → weighted mul a n j (λ i. bitXor (f i) (g i)) ≡ bitXor (weighted mul a n j f) (weighted mul a n j g)

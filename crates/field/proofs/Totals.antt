@@ -8,7 +8,7 @@ use native.Mathlib.Omega.{arith}
 use lib.Pow.{pow-pos}
 use lib.Bits.{bitXor, xor-assoc, xor-self, xor-zero-r, xor-lt}
 use Rattle.field.specs.Sums.{total, flag, nonzeros}
-use Rattle.field.proofs.Products.{xor-swap}
+use Rattle.field.proofs.ExclusiveOr.{xor-swap}
 
 pub xor-equal : (a b : ℕ) → bitXor a b ≡ 0 → a ≡ b
 xor-equal a b e =
@@ -24,7 +24,8 @@ total-ext f g (suc n) e = ap₂ bitXor (total-ext f g n (λ i p. e i (omega arit
 pub total-xor : (f g : ℕ → ℕ) (n : ℕ) → total (λ i. bitXor (f i) (g i)) n ≡ bitXor (total f n) (total g n)
 unfolding total
 total-xor f g zero = refl
-total-xor f g (suc n) = ap (λ x. bitXor x (bitXor (f n) (g n))) (total-xor f g n) ∙ xor-swap (total f n) (total g n) (f n) (g n)
+total-xor f g (suc n) = ap (λ x. bitXor x (bitXor (f n) (g n))) (total-xor f g n)
+    ∙ xor-swap (total f n) (total g n) (f n) (g n)
 
 pub total-none : (f : ℕ → ℕ) (n : ℕ) → ((i : ℕ) → i < n → f i ≡ 0) → total f n ≡ 0
 unfolding total
@@ -36,7 +37,8 @@ unfolding total
 total-single f zero p l e = absurd (omega arith)
 total-single f (suc n) p l e = elim (eq-or-lt-of-le (le-of-suc-le-suc l)) [
   | inl q ↦ ap₂ bitXor (total-none f n (λ i k. e i (omega arith) (λ z. omega arith))) (sym (ap f q))
-  | inr k ↦ ap₂ bitXor (total-single f n p k (λ i o. e i (omega arith))) (e n (omega arith) (λ z. omega arith)) ∙ xor-zero-r (f p)
+  | inr k ↦ ap₂ bitXor (total-single f n p k (λ i o. e i (omega arith))) (e n (omega arith) (λ z. omega arith))
+      ∙ xor-zero-r (f p)
 ]
 
 pub total-lt : (f : ℕ → ℕ) (w n : ℕ) → ((i : ℕ) → i < n → f i < 2 ^ w) → total f n < 2 ^ w
@@ -68,7 +70,8 @@ flag-le (suc a) (suc b) h = omega arith
 pub nonzeros-le : (d e : ℕ → ℕ) (n : ℕ) → ((i : ℕ) → i < n → d i ≡ 0 → e i ≡ 0) → nonzeros e n ≤ nonzeros d n
 unfolding nonzeros
 nonzeros-le d e zero h = omega arith
-nonzeros-le d e (suc n) h = omega (arith, nonzeros-le d e n (λ i p. h i (omega arith)), flag-le (d n) (e n) (h n (omega arith)))
+nonzeros-le d e (suc n) h = omega
+    (arith, nonzeros-le d e n (λ i p. h i (omega arith)), flag-le (d n) (e n) (h n (omega arith)))
 
 flag-zero : (a : ℕ) → a ≡ 0 → flag a ≡ 0
 unfolding flag
@@ -84,8 +87,18 @@ pub nonzeros-less : (d e : ℕ → ℕ) (n p : ℕ) → p < n → (d p ≡ 0 →
 unfolding nonzeros
 nonzeros-less d e zero p l ne z h = absurd (omega arith)
 nonzeros-less d e (suc n) p l ne z h = elim (eq-or-lt-of-le (le-of-suc-le-suc l)) [
-  | inl q ↦ omega (arith, nonzeros-le d e n (λ i k. h i (omega arith)), flag-one (d n) (λ t. ne (ap d q ∙ t)), flag-zero (e n) (sym (ap e q) ∙ z))
-  | inr k ↦ omega (arith, nonzeros-less d e n p k ne z (λ i o. h i (omega arith)), flag-le (d n) (e n) (h n (omega arith)))
+  | inl q ↦ omega (
+    arith,
+    nonzeros-le d e n (λ i k. h i (omega arith)),
+    flag-one (d n) (λ t. ne (ap d q ∙ t)),
+    flag-zero (e n) (sym (ap e q) ∙ z),
+  )
+  | inr k ↦ omega (
+    arith,
+    nonzeros-less d e n p k ne z (λ i o. h i (omega arith)),
+    flag-le (d n) (e n)
+        (h n (omega arith)),
+  )
 ]
 
 -- all are 0, or one is not

@@ -15,7 +15,8 @@ use Rattle.field.proofs.Inverses.{frob, field}
 -- ---- words of two bytes, modulo 1100Bh
 
 rows16 : List ℕ
-rows16 = 350 ∷ 42420 ∷ 42422 ∷ 7412 ∷ 42418 ∷ 10272 ∷ 7420 ∷ 1328 ∷ 42402 ∷ 38610 ∷ 10240 ∷ 5068 ∷ 7356 ∷ 0 ∷ 1456 ∷ 21936 ∷ []
+rows16 = 350 ∷ 42420 ∷ 42422 ∷ 7412 ∷ 42418 ∷ 10272 ∷ 7420 ∷ 1328 ∷ 42402 ∷ 38610 ∷ 10240 ∷ 5068 ∷ 7356 ∷ 0 ∷ 1456
+    ∷ 21936 ∷ []
 
 pub field16 : FieldLaws 16 (product 15 0x1100B) (inverse 15 0x1100B)
 unfolding frob combine product times double rows16
@@ -49,11 +50,13 @@ powers-differ mul told i j p q e = sym (told i p) ∙ ap (λ v. place mul v 20) 
 pub differ16 : Powers-differ (product 15 0x1100B) 2 20
 unfolding place power product times double
 differ16 =
-    powers-differ (product 15 0x1100B) (same-at (λ i. place (product 15 0x1100B) (power (product 15 0x1100B) 2 i) 20) (λ i. i) 20 tt)
+    powers-differ (product 15 0x1100B)
+    (same-at (λ i. place (product 15 0x1100B) (power (product 15 0x1100B) 2 i) 20) (λ i. i) 20 tt)
 
 pub differ8 : Powers-differ (product 7 0x11D) 2 20
 unfolding place power product times double
-differ8 = powers-differ (product 7 0x11D) (same-at (λ i. place (product 7 0x11D) (power (product 7 0x11D) 2 i) 20) (λ i. i) 20 tt)
+differ8 = powers-differ (product 7 0x11D)
+    (same-at (λ i. place (product 7 0x11D) (power (product 7 0x11D) 2 i) 20) (λ i. i) 20 tt)
 
 -- ---- the two-byte field by its own names
 

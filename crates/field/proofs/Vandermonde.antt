@@ -72,25 +72,29 @@ module _ (w : ℕ) (mul : ℕ → ℕ → ℕ) (inv : ℕ → ℕ) (F : FieldLaw
         point i q =
             sym (F .mul-assoc (c i j) (bitXor (x i) y) (d i) (c-lt i j) (xor-lt w (x i) y (x-lt i) p) q)
             ∙ ap (λ t. mul t (d i)) (F .mul-xor (c i j) (x i) y (c-lt i j) (x-lt i) p)
-            ∙ xor-l (mul (c i j) (x i)) (mul (c i j) y) (d i) (F .mul-lt _ _ (c-lt i j) (x-lt i)) (F .mul-lt _ _ (c-lt i j) p) q
+            ∙ xor-l (mul (c i j) (x i)) (mul (c i j) y) (d i) (F .mul-lt _ _ (c-lt i j) (x-lt i))
+            (F .mul-lt _ _ (c-lt i j) p) q
             ∙ ap₂ bitXor
             (ap (λ t. mul t (d i)) (F .mul-comm (c i j) (x i) (c-lt i j) (x-lt i) ∙ sym (c-suc i j)))
             (ap (λ t. mul t (d i)) (F .mul-comm (c i j) y (c-lt i j) p) ∙ F .mul-assoc y (c i j) (d i) p (c-lt i j) q)
 
     vanish-at : ((i j : ℕ) → i < n → j < n → x i ≡ x j → i ≡ j) → (r : ℕ) (d : ℕ → ℕ)
         → ((i : ℕ) → i < n → d i < 2 ^ w) → nonzeros d n ≤ suc r → ((j : ℕ) → j < suc r → moment j d ≡ 0)
-        → ((e : ℕ → ℕ) → ((i : ℕ) → i < n → e i < 2 ^ w) → nonzeros e n ≤ r → ((j : ℕ) → j < r → moment j e ≡ 0) → (i : ℕ) → i < n → e i ≡ 0)
+        → ((e : ℕ → ℕ) → ((i : ℕ) → i < n → e i < 2 ^ w) → nonzeros e n ≤ r → ((j : ℕ) → j < r → moment j e ≡ 0)
+        → (i : ℕ) → i < n → e i ≡ 0)
         → (p : ℕ) → p < n → (d p ≡ 0 → ⊥) → d p ≡ 0
     vanish-at apart r d h s z ih p l ne =
         sym (F .mul-one (d p) (h p l)) ∙ ap (λ t. mul t (d p)) (sym (c-zero p))
-        ∙ sym (total-single (λ i. mul (c i 0) (d i)) n p l (λ i k q. ap (mul (c i 0)) (others i k q) ∙ zero-r (c i 0) (c-lt i 0)))
+        ∙ sym (total-single (λ i. mul (c i 0) (d i)) n p l (λ i k q. ap (mul (c i 0)) (others i k q)
+        ∙ zero-r (c i 0) (c-lt i 0)))
         ∙ first
       where
         first : total (λ i. mul (c i 0) (d i)) n ≡ 0
         first = unfold moment in z 0 (omega arith)
 
         here : away (x p) d p ≡ 0
-        here = unfold away in ap (λ t. mul t (d p)) (xor-self (x p)) ∙ F .mul-comm 0 (d p) (pow-pos w) (h p l) ∙ zero-r (d p) (h p l)
+        here = unfold away in ap (λ t. mul t (d p)) (xor-self (x p)) ∙ F .mul-comm 0 (d p) (pow-pos w) (h p l)
+            ∙ zero-r (d p) (h p l)
 
         keeps : (i : ℕ) → i < n → d i ≡ 0 → away (x p) d i ≡ 0
         keeps i k q = unfold away in ap (mul (bitXor (x i) (x p))) q ∙ zero-r _ (xor-lt w (x i) (x p) (x-lt i) (x-lt p))

@@ -13,7 +13,8 @@ use Rattle.field.proofs.TwoFields.{word-field}
 sq-lt′ : (n b : ℕ) → b < 65536 → squares 15 0x1100B n b < 65536
 sq-lt′ n b p = squares-lt 15 0x1100B 0x100B refl (lit< tt) n b (lit< tt) p
 
-pub squares-start : (a q : ℕ) → a < 65536 → q ≡ wordProduct a a → wordProduct 1 (squares 15 0x1100B 15 q) ≡ wordInverse a
+pub squares-start : (a q : ℕ) → a < 65536 → q ≡ wordProduct a a
+    → wordProduct 1 (squares 15 0x1100B 15 q) ≡ wordInverse a
 unfolding inverse wordProduct wordInverse
 squares-start a q h e =
     let lt : q < 65536 = subst (λ t. t < 65536) (sym e) (word-field .mul-lt a a h h) in
@@ -23,8 +24,10 @@ pub squares-step : (i p q p′ q′ v : ℕ) → i < 15 → p < 65536 → q < 65
     → wordProduct p (squares 15 0x1100B (15 - i) q) ≡ v → wordProduct p′ (squares 15 0x1100B (15 - (i + 1)) q′) ≡ v
 squares-step i p q p′ q′ v h pl ql ep eq e =
     ap₂ (λ x y. wordProduct x (squares 15 0x1100B (15 - (i + 1)) y)) ep eq
-    ∙ word-field .mul-assoc p q (squares 15 0x1100B (15 - (i + 1)) (wordProduct q q)) pl ql (sq-lt′ _ _ (word-field .mul-lt q q ql ql))
-    ∙ ap (wordProduct p) (unroll (15 - (i + 1)) ∙ ap (λ n. squares 15 0x1100B n q) (let z : suc (15 - (i + 1)) ≡ 15 - i = omega arith in z))
+    ∙ word-field .mul-assoc p q (squares 15 0x1100B (15 - (i + 1)) (wordProduct q q)) pl ql
+    (sq-lt′ _ _ (word-field .mul-lt q q ql ql))
+    ∙ ap (wordProduct p) (unroll (15 - (i + 1))
+    ∙ ap (λ n. squares 15 0x1100B n q) (let z : suc (15 - (i + 1)) ≡ 15 - i = omega arith in z))
     ∙ e
   where
     unroll : (n : ℕ) → wordProduct q (squares 15 0x1100B n (wordProduct q q)) ≡ squares 15 0x1100B (suc n) q

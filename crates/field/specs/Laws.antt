@@ -1,4 +1,11 @@
--- What a field of words has, with exclusive-or as its sum. Assumes nothing.
+-- What a field of words means and has, with exclusive-or as its sum. Assumes nothing.
+--
+--   Arithmetic            the meaning of a field: the width of its words, its product and its inverse
+--   FieldLaws w mul inv   what makes a field of the words of w bits
+--   Powers-differ ..      the first n powers of a word differ from each other
+--   IsField F             the arithmetic F is that of a field
+--   pointOf F i             2 to the power i, the point of position i of a column
+--   gapOf F i k             the inverse of the difference of two points
 use mathlib.Core.Path.{_≡_}
 use Prim.Native.Nat.{ℕ, _^_, _<_}
 use lib.Bits.{bitXor}
@@ -13,6 +20,20 @@ pub record FieldLaws (w : ℕ) (mul : ℕ → ℕ → ℕ) (inv : ℕ → ℕ) :
   pub mul-one : (a : ℕ) → a < 2 ^ w → mul 1 a ≡ a
   pub inv-lt : (a : ℕ) → a < 2 ^ w → inv a < 2 ^ w
   pub mul-inv : (a : ℕ) → a < 2 ^ w → (a ≡ 0 → ⊥) → mul a (inv a) ≡ 1
+
+pub record Arithmetic : Type 0 where
+  pub wide : ℕ
+  pub times : ℕ → ℕ → ℕ
+  pub over : ℕ → ℕ
+
+abbrev pub IsField : Arithmetic → Type 0
+IsField F = FieldLaws (F .wide) (F .times) (F .over)
+
+abbrev pub pointOf : Arithmetic → ℕ → ℕ
+pointOf F i = power (F .times) 2 i
+
+abbrev pub gapOf : Arithmetic → ℕ → ℕ → ℕ
+gapOf F i k = F .over (bitXor (pointOf F i) (pointOf F k))
 
 -- the first n powers of a differ from each other
 abbrev pub Powers-differ : (ℕ → ℕ → ℕ) → ℕ → ℕ → Type 0

@@ -1,42 +1,36 @@
 // What a field of words is, and that two-byte words and bytes are fields by one argument.
 ghost use mathlib.Core.Path.{_≡_};
 ghost use Prim.Native.Nat.{ℕ, _≤_};
-ghost use lib.Bits.{bitXor};
-ghost use Rattle.field.specs.Sums.{power};
 ghost use Rattle.field.specs.Polynomials.{product as modulo, inverse as opposite};
-ghost use Rattle.field.specs.Laws.{FieldLaws, Powers-differ};
+ghost use Rattle.field.specs.Laws.{Arithmetic, FieldLaws, IsField, Powers-differ, gapOf, pointOf};
 
 // A field whose elements are the words of `width` bits, at most sixteen; its sum is exclusive-or.
 pub trait Field {
-    ghost wide: { Self → ℕ };
+    ghost means: { Self → Arithmetic };
 
-    ghost times: { Self → ℕ → ℕ → ℕ };
+    law narrow: { (f : Self) → (2 ≤ means f .wide) × (means f .wide ≤ 16) };
 
-    ghost over: { Self → ℕ → ℕ };
-
-    law narrow: { (f : Self) → (2 ≤ wide f) × (wide f ≤ 16) };
-
-    law lawful: { (f : Self) → FieldLaws (wide f) (times f) (over f) };
+    law lawful: { (f : Self) → IsField (means f) };
 
     // The twenty positions of a column get different powers of 2.
-    law apart: { (f : Self) → Powers-differ (times f) 2 20 };
+    law apart: { (f : Self) → Powers-differ (means f .times) 2 20 };
 
     fn width(&self) -> u32
-        ensures { λ r. ⌜ r ≡ wide (now (self .entry)) ⌝ };
+        ensures { λ r. ⌜ r ≡ means (now (self .entry)) .wide ⌝ };
 
     fn product(&self, a: u16, b: u16) -> u16
-        ensures { λ r. ⌜ r ≡ times (now (self .entry)) a b ⌝ };
+        ensures { λ r. ⌜ r ≡ means (now (self .entry)) .times a b ⌝ };
 
     fn inverse(&self, a: u16) -> u16
-        ensures { λ r. ⌜ r ≡ over (now (self .entry)) a ⌝ };
+        ensures { λ r. ⌜ r ≡ means (now (self .entry)) .over a ⌝ };
 
     // The point of position i of a column: 2 to the power i.
     fn point(&self, i: usize) -> u16
-        ensures { λ r. ⌜ r ≡ power (times (now (self .entry))) 2 i ⌝ };
+        ensures { λ r. ⌜ r ≡ pointOf (means (now (self .entry))) i ⌝ };
 
     // The inverse of the difference of two points.
     fn gap(&self, i: usize, k: usize) -> u16
-        ensures { λ r. ⌜ r ≡ over (now (self .entry)) (bitXor (power (times (now (self .entry))) 2 i) (power (times (now (self .entry))) 2 k)) ⌝ };
+        ensures { λ r. ⌜ r ≡ gapOf (means (now (self .entry))) i k ⌝ };
 }
 
 // The laws of the two-byte field and of the byte field: a theorem only.

@@ -1,8 +1,7 @@
 // The product of two-byte words by tables: four bits of one factor at a time, and what stands too high is put back.
 ghost use mathlib.Core.Path.{_≡_};
-ghost use Prim.Native.Nat.{_/_, _%_, _<_};
-ghost use lib.Bits.{bitXor};
-ghost use Rattle.field.specs.Polynomials.{times, wordProduct};
+ghost use Prim.Native.Nat.{_<_};
+ghost use Rattle.field.specs.Polynomials.{standsFor, times, wordProduct};
 use crate::tables::above_16;
 use crate::tables::above_24;
 use crate::tables::nibble_times_byte;
@@ -28,7 +27,7 @@ fn by_nibble(a: u16, n: u16) -> u32
 
 // The word that stands for v modulo the polynomial.
 fn put_back(v: u32) -> u16
-    ensures { λ r. ⌜ r ≡ bitXor (bitXor (v % 65536) (times 15 0x1100B 8 0x100B (v / 65536 % 256))) (times 15 0x1100B 8 0x1BBB (v / 16777216)) ⌝ }
+    ensures { λ r. ⌜ r ≡ standsFor v ⌝ }
 {
     (v % 65536) as u16 ^ above_16((v / 65536 % 256) as u8) ^ above_24((v / 16777216) as u8)
 }

@@ -1,7 +1,7 @@
 // The field of two-byte words: products are those of polynomials modulo 1100Bh.
 ghost use mathlib.Core.Path.{_≡_};
 ghost use Prim.Native.Nat.{ℕ};
-ghost use Rattle.field.specs.Polynomials.{wordProduct, wordInverse};
+ghost use Rattle.field.specs.Polynomials.{wordField, wordInverse, wordProduct};
 ghost use Rattle.field.specs.Sums.{power};
 use crate::laws::Field;
 use crate::points::near_gap;
@@ -12,11 +12,7 @@ use crate::product::multiply;
 pub struct TwoByte;
 
 pub impl Field for TwoByte as TwoByteField {
-    ghost wide = { λ _. 16 };
-
-    ghost times = { λ _. wordProduct };
-
-    ghost over = { λ _. wordInverse };
+    ghost means = { λ _. wordField };
 
     fn width(&self) -> u32 {
         16

@@ -37,22 +37,28 @@ returns c = at
     lt = lane-lt number number-lt (λ q. bitXor (s q) (g q)) x-lt
 
     all : ℕ
-    all = bitXor (bitXor (bitXor (c .products-0 .result) (c .products-1 .result)) (c .products-2 .result)) (c .products-3 .result)
+    all = bitXor (bitXor (bitXor (c .products-0 .result) (c .products-1 .result)) (c .products-2 .result))
+        (c .products-3 .result)
 
     packed : all ≡ pack (l 0) (l 1) (l 2) (l 3)
     packed =
-        ap₂ bitXor (ap₂ bitXor (ap₂ bitXor (c .products-0 .ensures) (c .products-1 .ensures)) (c .products-2 .ensures)) (c .products-3 .ensures)
+        ap₂ bitXor (ap₂ bitXor (ap₂ bitXor (c .products-0 .ensures) (c .products-1 .ensures))
+        (c .products-2 .ensures)) (c .products-3 .ensures)
         ∙ joined number number-lt (λ q. bitXor (s q) (g q)) x-lt
 
     at : (p : ℕ) → p < 4
-        → getD (all % 65536 ∷ all / 65536 % 65536 ∷ all / 4294967296 % 65536 ∷ all / 281474976710656 % 65536 ∷ []) p 0 ≡ nextWord s g p
+        → getD (all % 65536 ∷ all / 65536 % 65536 ∷ all / 4294967296 % 65536 ∷ all / 281474976710656 % 65536 ∷ []) p 0
+        ≡ nextWord s g p
     at zero h = ap (λ z. z % 65536) packed ∙ lane-0 (l 0) (l 1) (l 2) (l 3) (lt 0 (lit< tt)) ∙ lane-next s g x-lt 0
     at (suc zero) h =
-        ap (λ z. z / 65536 % 65536) packed ∙ lane-1 (l 0) (l 1) (l 2) (l 3) (lt 0 (lit< tt)) (lt 1 (lit< tt)) ∙ lane-next s g x-lt 1
+        ap (λ z. z / 65536 % 65536) packed ∙ lane-1 (l 0) (l 1) (l 2) (l 3) (lt 0 (lit< tt)) (lt 1 (lit< tt))
+        ∙ lane-next s g x-lt 1
     at (suc (suc zero)) h =
-        ap (λ z. z / 4294967296 % 65536) packed ∙ lane-2 (l 0) (l 1) (l 2) (l 3) (lt 0 (lit< tt)) (lt 1 (lit< tt)) (lt 2 (lit< tt))
+        ap (λ z. z / 4294967296 % 65536) packed
+        ∙ lane-2 (l 0) (l 1) (l 2) (l 3) (lt 0 (lit< tt)) (lt 1 (lit< tt)) (lt 2 (lit< tt))
         ∙ lane-next s g x-lt 2
     at (suc (suc (suc zero))) h =
         ap (λ z. z / 281474976710656 % 65536) packed
-        ∙ lane-3 (l 0) (l 1) (l 2) (l 3) (lt 0 (lit< tt)) (lt 1 (lit< tt)) (lt 2 (lit< tt)) (lt 3 (lit< tt)) ∙ lane-next s g x-lt 3
+        ∙ lane-3 (l 0) (l 1) (l 2) (l 3) (lt 0 (lit< tt)) (lt 1 (lit< tt)) (lt 2 (lit< tt)) (lt 3 (lit< tt))
+        ∙ lane-next s g x-lt 3
     at (suc (suc (suc (suc p)))) h = absurd (omega arith)

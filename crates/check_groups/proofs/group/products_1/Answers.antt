@@ -9,4 +9,5 @@ use Rattle.check_groups.proofs.group.products_1.Needs as need
 pub returns : need.returns
 returns c =
     let h : c .args .x < 2 ^ 16 = omega (arith, c .fits .x) in
-    ap₂ bitXor (c .low-1 .ensures) (c .high-1 .ensures) ∙ by-bytes 0xA20D 0xD219 0xC218 0xB20D (c .args .x) (lit< tt) (lit< tt) (lit< tt) (lit< tt) h
+    ap₂ bitXor (c .low-1 .ensures) (c .high-1 .ensures)
+    ∙ by-bytes 0xA20D 0xD219 0xC218 0xB20D (c .args .x) (lit< tt) (lit< tt) (lit< tt) (lit< tt) h

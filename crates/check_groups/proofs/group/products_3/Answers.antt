@@ -9,4 +9,5 @@ use Rattle.check_groups.proofs.group.products_3.Needs as need
 pub returns : need.returns
 returns c =
     let h : c .args .x < 2 ^ 16 = omega (arith, c .fits .x) in
-    ap₂ bitXor (c .low-3 .ensures) (c .high-3 .ensures) ∙ by-bytes 0xAA05 0x8085 0x7343 0x59C2 (c .args .x) (lit< tt) (lit< tt) (lit< tt) (lit< tt) h
+    ap₂ bitXor (c .low-3 .ensures) (c .high-3 .ensures)
+    ∙ by-bytes 0xAA05 0x8085 0x7343 0x59C2 (c .args .x) (lit< tt) (lit< tt) (lit< tt) (lit< tt) h

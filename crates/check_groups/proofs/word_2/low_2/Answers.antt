@@ -71,4 +71,5 @@ pub returns : need.returns
 unfolding entries right wordProduct product times double
 returns c =
     let h : c .args .x < 256 = omega (arith, c .fits .x) in
-    eqb→eq (getD entries (c .args .x) 0) (four 0x6242 0xA1B4 0xEF9E 0x2C69 (c .args .x * 1)) (at right entries tt (c .args .x) h)
+    eqb→eq (getD entries (c .args .x) 0) (four 0x6242 0xA1B4 0xEF9E 0x2C69 (c .args .x * 1))
+    (at right entries tt (c .args .x) h)

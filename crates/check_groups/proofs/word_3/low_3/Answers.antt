@@ -71,4 +71,5 @@ pub returns : need.returns
 unfolding entries right wordProduct product times double
 returns c =
     let h : c .args .x < 256 = omega (arith, c .fits .x) in
-    eqb→eq (getD entries (c .args .x) 0) (four 0xAA05 0x8085 0x7343 0x59C2 (c .args .x * 1)) (at right entries tt (c .args .x) h)
+    eqb→eq (getD entries (c .args .x) 0) (four 0xAA05 0x8085 0x7343 0x59C2 (c .args .x * 1))
+    (at right entries tt (c .args .x) h)

@@ -17,13 +17,16 @@ loop-i-again c =
     let lt : c .loop-i .i < 20 = omega arith in
     elim (c .if-not-marks-i .came) [
       | then-not-marks-i w ↦ (
-        ap length (w .out-is) ∙ length-set (c .loop-i .out) (c .loop-i .i) (getD (c .args .column) (c .loop-i .i) 0) ∙ c .loop-i .inv .0,
+        ap length (w .out-is) ∙ length-set (c .loop-i .out) (c .loop-i .i) (getD (c .args .column) (c .loop-i .i) 0)
+            ∙ c .loop-i .inv .0,
         subst (λ t. Blanked (c .args .column) (c .args .marks) (c .loop-i .i + 1) t) (sym (w .out-is))
-            (blank-more (c .args .column) (c .args .marks) (c .loop-i .i) (c .loop-i .out) (c .loop-i .inv .0) lt (c .loop-i .inv .1) (w .if-not-marks-i .taken)),
+            (blank-more (c .args .column) (c .args .marks) (c .loop-i .i) (c .loop-i .out) (c .loop-i .inv .0) lt
+            (c .loop-i .inv .1) (w .if-not-marks-i .taken)),
       )
       | else-not-marks-i w ↦ (
         ap length (w .out-is) ∙ c .loop-i .inv .0,
         subst (λ t. Blanked (c .args .column) (c .args .marks) (c .loop-i .i + 1) t) (sym (w .out-is))
-            (blank-skip (c .args .column) (c .args .marks) (c .loop-i .i) (c .loop-i .out) (c .loop-i .inv .1) (w .if-not-marks-i .left)),
+            (blank-skip (c .args .column) (c .args .marks) (c .loop-i .i) (c .loop-i .out) (c .loop-i .inv .1)
+            (w .if-not-marks-i .left)),
       )
     ]

@@ -17,6 +17,16 @@ loop-i-holds c = (refl, omega arith)
 pub loop-i-again : need.loop-i-again
 loop-i-again c =
     elim (c .if-marks-i .came) [
-      | then-marks-i w ↦ (w .count-is ∙ ap (λ x. x + 1) (c .loop-i .inv .0) ∙ count-yes (c .args .marks) (c .loop-i .i) (w .if-marks-i .taken), omega (arith, w .count-is, c .loop-i .inv .1))
-      | else-marks-i w ↦ (w .count-is ∙ c .loop-i .inv .0 ∙ count-no (c .args .marks) (c .loop-i .i) (w .if-marks-i .left), omega (arith, w .count-is, c .loop-i .inv .1))
+      | then-marks-i w ↦ (
+        w .count-is ∙ ap (λ x. x + 1) (c .loop-i .inv .0)
+            ∙ count-yes (c .args .marks) (c .loop-i .i) (w .if-marks-i .taken),
+        omega
+            (arith, w .count-is, c .loop-i .inv .1),
+      )
+      | else-marks-i w ↦ (
+        w .count-is ∙ c .loop-i .inv .0
+            ∙ count-no (c .args .marks) (c .loop-i .i) (w .if-marks-i .left),
+        omega
+            (arith, w .count-is, c .loop-i .inv .1),
+      )
     ]

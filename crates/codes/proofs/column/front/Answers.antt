@@ -10,4 +10,5 @@ pub returns : need.returns
 returns c =
     let fit : (k : ℕ) → k < 20 → getD (c .args .column) k 0 < 65536 = λ k h. search needs in
     let l20 : length (c .args .column) ≡ 20 = search needs in
-    front-same (c .loop-i .words) (c .args .column) 16 (c .loop-i .inv .0) (omega (arith, l20)) (λ k h. c .loop-i .inv .1 k (omega arith))
+    front-same (c .loop-i .words) (c .args .column) 16 (c .loop-i .inv .0) (omega (arith, l20))
+    (λ k h. c .loop-i .inv .1 k (omega arith))

@@ -15,5 +15,9 @@ returns-then-column-i c = (
 pub returns : need.returns
 returns c =
     let l20 : length (c .args .column) ≡ 20 = search needs in
-    let l4 : length (c .args .made) ≡ 4 = search needs in
-    ((λ _. tail-same (c .args .column) (c .args .made) l20 l4 (c .loop-i .inv 0 (omega arith)) (c .loop-i .inv 1 (omega arith)) (c .loop-i .inv 2 (omega arith)) (c .loop-i .inv 3 (omega arith))), λ _. refl)
+    let l4 : length (c .args .made) ≡ 4 = search needs in (
+      (λ _. tail-same (c .args .column) (c .args .made) l20 l4 (c .loop-i .inv 0 (omega arith))
+          (c .loop-i .inv 1 (omega arith)) (c .loop-i .inv 2 (omega arith)) (c .loop-i .inv 3 (omega arith))),
+      λ _.
+          refl,
+    )

@@ -17,8 +17,13 @@ returns c =
     let l2 : length (c .next-second .result) ≡ 4 = search needs in
     let l3 : length (c .next-third .result) ≡ 4 = search needs in
     let l4 : length (c .next .result) ≡ 4 = search needs in
-    let c1 = carried-more w 0 _ _ _ (λ q h. small (0 + q) (omega arith)) (c .group .ensures) l1 (c .next-first .ensures) (carried-none w) in
-    let c2 = carried-more w 4 _ _ _ (λ q h. small (4 + q) (omega arith)) (c .group-2 .ensures) l2 (c .next-second .ensures) c1 in
-    let c3 = carried-more w 8 _ _ _ (λ q h. small (8 + q) (omega arith)) (c .group-3 .ensures) l3 (c .next-third .ensures) c2 in
-    let c4 = carried-more w 12 _ _ _ (λ q h. small (12 + q) (omega arith)) (c .group-4 .ensures) l4 (c .next .ensures) c3 in
-    sym (carried-all (c .args .words) long (all-words (c .args .words) (λ i l. small i (omega (arith, long)))) (c .next .result) c4)
+    let c1 = carried-more w 0 _ _ _ (λ q h. small (0 + q) (omega arith)) (c .group .ensures) l1
+    (c .next-first .ensures) (carried-none w) in
+    let c2 = carried-more w 4 _ _ _ (λ q h. small (4 + q) (omega arith)) (c .group-2 .ensures) l2
+    (c .next-second .ensures) c1 in
+    let c3 = carried-more w 8 _ _ _ (λ q h. small (8 + q) (omega arith)) (c .group-3 .ensures) l3
+    (c .next-third .ensures) c2 in
+    let c4 = carried-more w 12 _ _ _ (λ q h. small (12 + q) (omega arith)) (c .group-4 .ensures) l4 (c .next .ensures)
+    c3 in
+    sym (carried-all (c .args .words) long (all-words (c .args .words) (λ i l. small i (omega (arith, long))))
+    (c .next .result) c4)

@@ -9,8 +9,10 @@ use Rattle.field.proofs.product.by_nibble.Needs as need
 
 pub returns : need.returns
 returns c =
-    let low : c .from .result ≡ times 15 0 4 (c .args .a % 256) (c .args .n) = c .from .ensures ∙ c .nibble-times-byte .ensures in
-    let high : c .from-2 .result ≡ times 15 0 4 (c .args .a / 256) (c .args .n) = c .from-2 .ensures ∙ c .nibble-times-byte-2 .ensures in
+    let low : c .from .result ≡ times 15 0 4 (c .args .a % 256) (c .args .n) = c .from .ensures
+    ∙ c .nibble-times-byte .ensures in
+    let high : c .from-2 .result ≡ times 15 0 4 (c .args .a / 256) (c .args .n) = c .from-2 .ensures
+    ∙ c .nibble-times-byte-2 .ensures in
     let e : bitXor (c .from .result) (c .from-2 .result * 256) ≡ times 15 0 4 (c .args .a) (c .args .n) =
     ap₂ (λ u v. bitXor u (v * 256)) low high ∙ nibble-bytes (c .args .a) (c .args .n) in
     let h : c .args .a < 65536 = omega (arith, c .fits .a) in

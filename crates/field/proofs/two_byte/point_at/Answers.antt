@@ -11,4 +11,5 @@ loop-k-holds c = refl
 pub loop-k-again : need.loop-k-again
 unfolding power
 loop-k-again c =
-    c .multiply-x .ensures ∙ ap (wordProduct 2) (c .loop-k .inv) ∙ ap (power wordProduct 2) (sym (add-one (c .loop-k .-k)))
+    c .multiply-x .ensures ∙ ap (wordProduct 2) (c .loop-k .inv)
+    ∙ ap (power wordProduct 2) (sym (add-one (c .loop-k .-k)))

@@ -9,16 +9,23 @@ use Rattle.field.proofs.two_byte.reciprocal.Needs as need
 
 pub loop-i-holds : need.loop-i-holds
 loop-i-holds c =
-    let lt : c .args .a < 65536 = omega arith in
-    (omega arith, c .multiply-square .ok, squares-start (c .args .a) (c .multiply-square .result) lt (c .multiply-square .ensures))
+    let lt : c .args .a < 65536 = omega arith in (
+      omega arith,
+      c .multiply-square .ok,
+      squares-start (c .args .a) (c .multiply-square .result) lt
+          (c .multiply-square .ensures),
+    )
 
 pub loop-i-again : need.loop-i-again
 loop-i-again c = (
   c .multiply-product .ok,
   c .multiply-square-in-loop-i .ok,
-  squares-step (c .loop-i .-i) (c .loop-i .product) (c .loop-i .square) (c .multiply-product .result) (c .multiply-square-in-loop-i .result) _
-      (c .loop-i-test .taken) (c .loop-i .inv .0) (c .loop-i .inv .1) (c .multiply-product .ensures) (c .multiply-square-in-loop-i .ensures) (c .loop-i .inv .2),
+  squares-step (c .loop-i .-i) (c .loop-i .product) (c .loop-i .square) (c .multiply-product .result)
+      (c .multiply-square-in-loop-i .result) _
+      (c .loop-i-test .taken) (c .loop-i .inv .0) (c .loop-i .inv .1) (c .multiply-product .ensures)
+      (c .multiply-square-in-loop-i .ensures) (c .loop-i .inv .2),
 )
 
 pub returns : need.returns
-returns c = squares-end (c .loop-i .-i) (c .loop-i .product) (c .loop-i .square) _ (c .loop-i-test .left) (c .loop-i .inv .0) (c .loop-i .inv .2)
+returns c = squares-end (c .loop-i .-i) (c .loop-i .product) (c .loop-i .square) _ (c .loop-i-test .left)
+    (c .loop-i .inv .0) (c .loop-i .inv .2)

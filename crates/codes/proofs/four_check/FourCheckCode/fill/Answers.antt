@@ -23,12 +23,15 @@ filled-in-requires c κs =
 pub returns : need.returns
 returns c =
     let long : length (c .filled-in .result) ≡ 20 = search needs in
-    filled-code fourCheck (c .args .column) (c .blanked-blank .result) (c .filled-in .result) (c .args .marks) four-solves long
+    filled-code fourCheck (c .args .column) (c .blanked-blank .result) (c .filled-in .result) (c .args .marks)
+    four-solves long
     (c .blanked-blank .ensures) (c .filled-in .ensures)
 
 pub returns-then-count-missing-eq0 : need.returns-then-count-missing-eq0
 returns-then-count-missing-eq0 c =
     let long : length (c .blanked-blank .result) ≡ 20 = search needs in
-    filled-code fourCheck (c .args .column) (c .blanked-blank .result) (c .blanked-blank .result) (c .args .marks) four-solves long
+    filled-code fourCheck (c .args .column) (c .blanked-blank .result) (c .blanked-blank .result) (c .args .marks)
+    four-solves long
     (c .blanked-blank .ensures)
-    (patch-whole 16 wordProduct 20 4 (c .blanked-blank .result) (c .args .marks) (sym (c .count-missing .ensures) ∙ c .if-count-missing-eq0 .taken))
+    (patch-whole 16 wordProduct 20 4 (c .blanked-blank .result) (c .args .marks) (sym (c .count-missing .ensures)
+    ∙ c .if-count-missing-eq0 .taken))

@@ -37,9 +37,12 @@ returns-then-same-tail g c =
     let r4 = g .Self·CheckCode·met .lawful (now (c .args .self)) .at-most-four in
     let same = c .if-same-tail .ensures tt .0 refl in
     record {
-      words = ap (λ a. a .0) (column-answered code (c .args .column) (c .args .marks) out r4 few (c .fill-filled .ensures) long small _ made same);
-      flag = ap (λ a. a .1) (column-answered code (c .args .column) (c .args .marks) out r4 few (c .fill-filled .ensures) long small _ made same);
-      settles = the-column code (c .args .column) (c .args .marks) out r4 few (c .fill-filled .ensures) long small _ made same;
+      words = ap (λ a. a .0) (column-answered code (c .args .column) (c .args .marks) out r4 few
+          (c .fill-filled .ensures) long small _ made same);
+      flag = ap (λ a. a .1) (column-answered code (c .args .column) (c .args .marks) out r4 few
+          (c .fill-filled .ensures) long small _ made same);
+      settles = the-column code (c .args .column) (c .args .marks) out r4 few (c .fill-filled .ensures) long small _
+          made same;
     }
 
 pub returns-else-same-tail : need.returns-else-same-tail
@@ -52,7 +55,8 @@ returns-else-same-tail g c =
     let small : (k : ℕ) → k < 20 → getD out k 0 < 65536 = λ k h. search needs in
     let length20 : length (c .args .column) ≡ 20 = search needs in
     let below : (k : ℕ) → k < 20 → getD (c .args .column) k 0 < 65536 = λ k h. search needs in
-    let fits = fits-all (c .args .column) (all-words (c .args .column) (λ i l. below i (subst (λ m. i < m) length20 l))) in
+    let fits = fits-all (c .args .column)
+    (all-words (c .args .column) (λ i l. below i (subst (λ m. i < m) length20 l))) in
     let long : length out ≡ 20 = search needs in
     let made : c .check-words-made .result ≡ code .checks (take 16 out) ++ replicate (4 - code .r) 0 =
     c .check-words-made .ensures ∙ ap (λ t. code .checks t ++ replicate (4 - code .r) 0) (c .front .ensures) in
@@ -60,7 +64,10 @@ returns-else-same-tail g c =
     let other : drop 16 out ≡ c .check-words-made .result → ⊥ =
     λ e. let f = c .if-same-tail .ensures tt .1 e in absurd (let z : _≡_ {A = ℕ} 0 1 = cc in omega arith) in
     record {
-      words = ap (λ a. a .0) (none-answered code (c .args .column) (c .args .marks) out r4 few (c .fill-filled .ensures) long small _ made fits other);
-      flag = ap (λ a. a .1) (none-answered code (c .args .column) (c .args .marks) out r4 few (c .fill-filled .ensures) long small _ made fits other);
-      settles = no-column code (c .args .column) (c .args .marks) out r4 few (c .fill-filled .ensures) long small _ made other;
+      words = ap (λ a. a .0) (none-answered code (c .args .column) (c .args .marks) out r4 few
+          (c .fill-filled .ensures) long small _ made fits other);
+      flag = ap (λ a. a .1) (none-answered code (c .args .column) (c .args .marks) out r4 few
+          (c .fill-filled .ensures) long small _ made fits other);
+      settles = no-column code (c .args .column) (c .args .marks) out r4 few (c .fill-filled .ensures) long small _
+          made other;
     }

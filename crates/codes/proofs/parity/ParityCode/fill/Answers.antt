@@ -24,11 +24,13 @@ filled-in-requires c κs =
       few = lit≤ tt;
       fits = fits;
       zeros = c .blanked-blank .ensures .absent;
-      sums = first-sum (c .xor-column .result) (c .blanked-blank .result) (c .xor-column .ensures ∙ sym (plain-sum 17 (λ i. getD (c .blanked-blank .result) i 0) fits));
+      sums = first-sum (c .xor-column .result) (c .blanked-blank .result) (c .xor-column .ensures
+          ∙ sym (plain-sum 17 (λ i. getD (c .blanked-blank .result) i 0) fits));
     }
 
 pub returns : need.returns
 returns c =
     let long : length (c .filled-in .result) ≡ 20 = search needs in
-    filled-code parity (c .args .column) (c .blanked-blank .result) (c .filled-in .result) (c .args .marks) parity-solves long
+    filled-code parity (c .args .column) (c .blanked-blank .result) (c .filled-in .result) (c .args .marks)
+    parity-solves long
     (c .blanked-blank .ensures) (c .filled-in .ensures)
