@@ -1,5 +1,5 @@
 #!/usr/bin/env python3
-"""Writes the tables of crate check_groups, and the proofs that hold the same entries: tools/group_tables.py
+"""Writes the tables of crate check_groups, and the proofs that hold the same entries: tools/group_tables.py, then rt fmt
 
 Table low_q has at byte x the products of x with the four numbers by which word q of a group goes into the check words
 behind it, sixteen bits each, the first lowest; table high_q has those of 256 times x.

@@ -1,5 +1,5 @@
 #!/usr/bin/env python3
-"""Writes the tables of crate field, and the proofs that hold the same entries: tools/product_tables.py
+"""Writes the tables of crate field, and the proofs that hold the same entries: tools/product_tables.py, then rt fmt
 
 NIBBLES has at 256 times n plus y the product of the byte y and the four bits n as polynomials, with nothing reduced.
 POINTS has the first twenty powers of 2, and GAPS at 20 times i plus k the inverse of the sum of powers i and k.

@@ -7,8 +7,8 @@
 --   fillings c               every column that agrees
 --   rebuild code c           the right column that agrees, if there is one
 --   answered code c          the twenty words and the flag that rebuild answers
---   rebuilt code column marks   the same, of a column and its marks
---   Settles code column marks answer    the law of an answer: right, agreeing and the only one; or refused for cause
+--   rebuilt code column marks          the same, of a column and its marks
+--   Settles code column marks answer   the law of an answer: right, agreeing and the only one; or refused for cause
 use mathlib.Core.Path.{_≡_}
 use mathlib.Core.List.{List, [], _∷_, _++_, map}
 use mathlib.Core.Bool.{Bool, true, false, cond, _&&_}

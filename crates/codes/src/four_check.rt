@@ -1,8 +1,6 @@
 // The four-check code: four check words that make four sums over the two-byte field zero.
 ghost use mathlib.Core.Path.{_≡_};
-ghost use mathlib.Core.List.{List};
-ghost use Prim.Native.Nat.{ℕ, _+_, _*_, _<_, _≤_};
-ghost use lib.Bits.{bitXor};
+ghost use Prim.Native.Nat.{ℕ, _+_, _<_, _≤_};
 ghost use lib.ListN.{getD};
 ghost use Rattle.field.specs.Polynomials.{wordProduct};
 ghost use Rattle.field.specs.Sums.{total, weighted};

@@ -1,6 +1,5 @@
 // The parity code: one check word, the exclusive-or of the sixteen.
 ghost use mathlib.Core.Path.{_≡_};
-ghost use Prim.Native.Nat.{ℕ, _≤_};
 ghost use lib.ListN.{getD};
 ghost use Rattle.field.specs.Sums.{total};
 ghost use Rattle.codes.specs.TwoCodes.{parity};

@@ -4,8 +4,8 @@
 --   FieldLaws w mul inv   what makes a field of the words of w bits
 --   Powers-differ ..      the first n powers of a word differ from each other
 --   IsField F             the arithmetic F is that of a field
---   pointOf F i             2 to the power i, the point of position i of a column
---   gapOf F i k             the inverse of the difference of two points
+--   pointOf F i           2 to the power i, the point of position i of a column
+--   gapOf F i k           the inverse of the difference of two points
 use mathlib.Core.Path.{_≡_}
 use Prim.Native.Nat.{ℕ, _^_, _<_}
 use lib.Bits.{bitXor}

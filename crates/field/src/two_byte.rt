@@ -1,6 +1,5 @@
 // The field of two-byte words: products are those of polynomials modulo 1100Bh.
 ghost use mathlib.Core.Path.{_≡_};
-ghost use Prim.Native.Nat.{ℕ};
 ghost use Rattle.field.specs.Polynomials.{wordField, wordInverse, wordProduct};
 ghost use Rattle.field.specs.Sums.{power};
 use crate::laws::Field;
