@@ -1,0 +1,4 @@
+pub mod Code
+pub mod Rebuild
+pub mod TwoCodes
+pub mod Filling
