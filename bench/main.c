@@ -6,12 +6,16 @@
 #include <inttypes.h>
 #include <stdio.h>
 #include <stdlib.h>
+#include <string.h>
 #include <time.h>
 
 #include "baseline.h"
 
 /* crates/export */
 uint64_t dlt_crc64(const uint8_t *bytes, size_t length);
+uint16_t dlt_edc(const uint8_t *bytes, size_t length);
+uint8_t dlt_seal_data(uint8_t *block, size_t length, const struct data_fields *fields);
+uint8_t dlt_is_sound(const uint8_t *block, size_t length);
 
 #define ROUNDS 31         /* the best of so many rounds counts */
 #define ROUND_BYTES 32000000u /* so many bytes go through one round */
@@ -20,6 +24,46 @@ typedef uint64_t (*call)(uint8_t *buffer, size_t length);
 
 static uint64_t proved_crc(uint8_t *buffer, size_t length) { return dlt_crc64(buffer, length); }
 static uint64_t c_crc(uint8_t *buffer, size_t length) { return baseline_crc64(buffer, length); }
+
+static uint64_t proved_edc(uint8_t *buffer, size_t length) { return dlt_edc(buffer, length); }
+static uint64_t c_edc(uint8_t *buffer, size_t length) { return baseline_edc(buffer, length); }
+
+static const struct data_fields fields = {
+    .object = 1, .back = 0xFFFFFF, .first = 1, .place = 0x1234, .tag = 1, .envelope = 1,
+    .entities = 1, .offset = 1, .blocks = 6, .entity = 1, .starts = true,
+};
+
+/* The 48 bytes behind the Data Field as one number, so that a wrong one shows. */
+static uint64_t sealed(const uint8_t *block) {
+    uint64_t sum = 0;
+    for (size_t at = FIELD_LEN; at < BLOCK_LEN; at += 8) {
+        uint64_t word;
+        memcpy(&word, block + at, 8);
+        sum = sum * 31 + word;
+    }
+    return sum;
+}
+
+static uint64_t proved_seal(uint8_t *buffer, size_t length) {
+    return dlt_seal_data(buffer, length, &fields) + sealed(buffer);
+}
+
+static uint64_t c_seal(uint8_t *buffer, size_t length) {
+    return baseline_seal_data(buffer, length, &fields) + sealed(buffer);
+}
+
+/* A sound block, so that all of the judging is done. */
+static uint8_t sound[BLOCK_LEN];
+
+static uint64_t proved_judge(uint8_t *buffer, size_t length) {
+    (void)buffer;
+    return dlt_is_sound(sound, length);
+}
+
+static uint64_t c_judge(uint8_t *buffer, size_t length) {
+    (void)buffer;
+    return baseline_is_sound(sound, length);
+}
 
 struct row {
     const char *name;
@@ -32,6 +76,9 @@ static const struct row rows[] = {
     {"CRC of a block", 8248, proved_crc, c_crc},
     {"CRC of 1 MiB", 1048576, proved_crc, c_crc},
     {"CRC of 61 bytes", 61, proved_crc, c_crc},
+    {"EDC of a field", FIELD_LEN, proved_edc, c_edc},
+    {"seal a block", BLOCK_LEN, proved_seal, c_seal},
+    {"judge a block", BLOCK_LEN, proved_judge, c_judge},
 };
 
 static double seconds(void) {
@@ -85,6 +132,10 @@ static int time_row(const struct row *row) {
 int main(void) {
     int failed = 0;
     baseline_start();
+    for (size_t i = 0; i < FIELD_LEN; i++) {
+        sound[i] = (uint8_t)(i * 7 + i / 251);
+    }
+    failed |= baseline_seal_data(sound, BLOCK_LEN, &fields) != 0 || c_judge(sound, BLOCK_LEN) != 1;
     printf("%-18s %9s %9s %7s\n", "GB/s", "proved", "C", "ratio");
     for (size_t i = 0; i < sizeof rows / sizeof rows[0]; i++) {
         failed |= time_row(&rows[i]);

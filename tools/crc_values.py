@@ -31,4 +31,5 @@ def main():
     print(f"fill 9, 8,248 bytes: 0x{crc(filled(9, 8248)):016X}")
 
 
-main()
+if __name__ == "__main__":
+    main()

@@ -1,17 +1,19 @@
 -- Eight bytes read by their places: as the list they are, as one number, and by the tables. Assumes nothing.
-use mathlib.Core.Path.{_≡_, refl, sym, ap, ap₂, _∙_}
+use mathlib.Core.Path.{_≡_, refl, sym, ap, ap₂, _∙_, subst}
 use mathlib.Core.List.{List, [], _∷_}
 use Prim.Native.Nat.{ℕ, _+_, _*_, _/_, _%_, _^_, _<_, _≤_}
-use native.Mathlib.Nat.{div-one}
 use native.Mathlib.Omega.{arith}
 use lib.Bits.{bitXor}
 use lib.ListN.{length, getD, take, drop}
 use Rattle.std.proofs.shelf.Counted.{fill-by-all}
 use Rattle.std.proofs.shelf.Lists.{getD-take, length-take-le, take-append-drop}
+use Rattle.fields.specs.Bits.{bytes, value, AllBytes}
+use Rattle.fields.proofs.BitLaws.{bytes-value}
+use Rattle.fields.proofs.Digits.{bytes-eight}
 use Rattle.crc.specs.Crc.{crc, crcMore}
-use Rattle.crc.specs.Laws.{bigEndian, xorBytes, AreBytes}
+use Rattle.crc.specs.Laws.{xorBytes}
 use Rattle.crc.proofs.Linear.{sliced, crc-sliced, more-append}
-use Rattle.crc.proofs.Words.{value, bigEndian-value, bigEndian-xor, more-eight}
+use Rattle.crc.proofs.Words.{bytes-xor, more-eight}
 
 abbrev pub firstEight : List ℕ → List ℕ
 firstEight xs =
@@ -26,8 +28,15 @@ word xs =
     getD xs 0 0 * 2 ^ 56 + getD xs 1 0 * 2 ^ 48 + getD xs 2 0 * 2 ^ 40 + getD xs 3 0 * 2 ^ 32
     + getD xs 4 0 * 2 ^ 24 + getD xs 5 0 * 2 ^ 16 + getD xs 6 0 * 2 ^ 8 + getD xs 7 0
 
-word-is-value : (xs : List ℕ) → length xs ≡ 8 → word xs ≡ value xs
-word-is-value xs e = omega (arith, ap value (eight-are xs e))
+word-is-value : (xs : List ℕ) → AllBytes xs → length xs ≡ 8 → word xs ≡ value xs
+word-is-value xs a e =
+    let small : AllBytes (firstEight xs) = subst AllBytes (eight-are xs e) a in
+    go _ _ _ _ _ _ _ _ small ∙ ap value (sym (eight-are xs e))
+  where
+    go : (a b c d e f g h : ℕ) → AllBytes (a ∷ b ∷ c ∷ d ∷ e ∷ f ∷ g ∷ h ∷ [])
+        → a * 2 ^ 56 + b * 2 ^ 48 + c * 2 ^ 40 + d * 2 ^ 32 + e * 2 ^ 24 + f * 2 ^ 16 + g * 2 ^ 8 + h
+        ≡ value (a ∷ b ∷ c ∷ d ∷ e ∷ f ∷ g ∷ h ∷ [])
+    go a b c d e f g h (p0, (p1, (p2, (p3, (p4, (p5, (p6, (p7, _)))))))) = omega arith
 
 -- the bytes as `u64::to_be_bytes` makes them
 abbrev pub taken : ℕ → List ℕ
@@ -35,17 +44,17 @@ taken w =
     (w / 2 ^ 56 % 256) ∷ (w / 2 ^ 48 % 256) ∷ (w / 2 ^ 40 % 256) ∷ (w / 2 ^ 32 % 256)
     ∷ (w / 2 ^ 24 % 256) ∷ (w / 2 ^ 16 % 256) ∷ (w / 2 ^ 8 % 256) ∷ (w % 256) ∷ []
 
-pub taken-is : (w : ℕ) → taken w ≡ bigEndian 8 w
-taken-is w = simp div-one
+pub taken-is : (w : ℕ) → taken w ≡ bytes 8 w
+taken-is w = sym (bytes-eight w)
 
 -- eight bytes onto a register: the CRC of the bytes of both, exclusive-ored as one number
-pub more-word : (c : ℕ) (xs : List ℕ) → c < 2 ^ 64 → AreBytes xs → length xs ≡ 8
-    → crcMore c xs ≡ crc (bigEndian 8 (bitXor c (word xs)))
+pub more-word : (c : ℕ) (xs : List ℕ) → c < 2 ^ 64 → AllBytes xs → length xs ≡ 8
+    → crcMore c xs ≡ crc (bytes 8 (bitXor c (word xs)))
 more-word c xs h a e =
-    let own : bigEndian 8 (word xs) ≡ xs =
-    ap₂ bigEndian (sym e) (word-is-value xs e) ∙ bigEndian-value xs a in
+    let own : bytes 8 (word xs) ≡ xs =
+    ap₂ bytes (sym e) (word-is-value xs a e) ∙ bytes-value xs a in
     more-eight c xs h e
-    ∙ ap crc (ap (xorBytes (bigEndian 8 c)) (sym own) ∙ sym (bigEndian-xor 8 c (word xs)))
+    ∙ ap crc (ap (xorBytes (bytes 8 c)) (sym own) ∙ sym (bytes-xor 8 c (word xs)))
 
 -- and that by the tables
 pub crc-by-tables : (xs : List ℕ) → length xs ≡ 8

@@ -6,13 +6,13 @@ use native.Mathlib.Nat.{mod-lt, mod-eq-of-lt, eq-of-mul-eq-mul-right, mul-le-mul
 use native.Mathlib.Omega.{arith}
 use lib.Bits.{bitXor, xor-self, xor-assoc}
 use lib.Dec.{lit<, lit≤}
-use lib.ListN.{length, getD, set, take, drop}
+use lib.ListN.{length, getD, set, take, drop, replicate}
 use Rattle.std.proofs.shelf.Bits.{pow-add}
 use Rattle.std.proofs.shelf.Lists.{set-getD, set-split}
 use Rattle.crc.specs.Crc.{crc, crcMore}
+use Rattle.fields.specs.Bits.{bytes, value, AllBytes}
+use Rattle.fields.proofs.BitLaws.{join-lt, sum-eights, bytes-all, bytes-value, byte-lt}
 use Rattle.crc.specs.Laws.{
-  bigEndian,
-  AreBytes,
   Closed-gives-zero,
   Zero-only-if-closed,
   Is-linear,
@@ -31,22 +31,14 @@ use Rattle.crc.proofs.Linear.{
   same-from-more,
   xorBytes-self,
 }
-use Rattle.crc.proofs.Words.{
-  value,
-  value-lt,
-  bigEndian-value,
-  bigEndian-bytes,
-  crc-bigEndian,
-  more-eight,
-  pos-from-mul,
-}
+use Rattle.crc.proofs.Words.{width, crc-bytes, more-eight, pos-from-mul}
 
 pub is-linear : Is-linear
 is-linear xs ys e = more-xor 0 0 xs ys e
 
 pub closed-gives-zero : Closed-gives-zero
 closed-gives-zero bs =
-    let own : List ℕ = bigEndian 8 (crc bs) in
+    let own : List ℕ = bytes 8 (crc bs) in
     crc-append bs own ∙ more-eight (crc bs) own (crc-lt bs) refl ∙ ap crc (xorBytes-self own) ∙ crc-zeros 8
 
 fits-above : (s p v : ℕ) → s * p ≡ 2 ^ 64 → v < p → v * s < 2 ^ 64
@@ -54,33 +46,35 @@ fits-above s p v e h =
     omega (arith, mul-le-mul-right s h, suc-mul v s, mul-comm s p, pos-from-mul s p (omega arith))
 
 -- s moves n bytes to the top of the register
-same-value : (n s v w : ℕ) → s * 256 ^ n ≡ 2 ^ 64 → v < 256 ^ n → w < 256 ^ n
-    → crc (bigEndian n v) ≡ crc (bigEndian n w) → v ≡ w
+same-value : (n s v w : ℕ) → s * 2 ^ width n ≡ 2 ^ 64 → v < 2 ^ width n → w < 2 ^ width n
+    → crc (bytes n v) ≡ crc (bytes n w) → v ≡ w
 same-value n s v w unit hv hw e =
+    let p : ℕ = 2 ^ width n in
     let same : v * s % 2 ^ 64 ≡ w * s % 2 ^ 64 =
     same-from-more (v * s % 2 ^ 64) (w * s % 2 ^ 64) (zeros n) (mod-lt (v * s) (lit< tt)) (mod-lt (w * s) (lit< tt))
-    (crc-bigEndian n s v unit ∙ e ∙ sym (crc-bigEndian n s w unit)) in
-    eq-of-mul-eq-mul-right s (pos-from-mul s (256 ^ n) (omega arith)) v w
-    (sym (mod-eq-of-lt (fits-above s (256 ^ n) v unit hv)) ∙ same ∙ mod-eq-of-lt (fits-above s (256 ^ n) w unit hw))
+    (crc-bytes n s v unit ∙ e ∙ sym (crc-bytes n s w unit)) in
+    eq-of-mul-eq-mul-right s (pos-from-mul s p (omega arith)) v w
+    (sym (mod-eq-of-lt (fits-above s p v unit hv)) ∙ same ∙ mod-eq-of-lt (fits-above s p w unit hw))
 
-again : (n : ℕ) (bs : List ℕ) → AreBytes bs → length bs ≡ n → bigEndian n (value bs) ≡ bs
-again n bs h e = ap (λ m. bigEndian m (value bs)) (sym e) ∙ bigEndian-value bs h
+again : (n : ℕ) (bs : List ℕ) → AllBytes bs → length bs ≡ n → bytes n (value bs) ≡ bs
+again n bs h e = ap (λ m. bytes m (value bs)) (sym e) ∙ bytes-value bs h
 
-below : (n : ℕ) (bs : List ℕ) → AreBytes bs → length bs ≡ n → value bs < 256 ^ n
-below n bs h e = subst (λ (m : ℕ). value bs < 256 ^ m) e (value-lt bs h)
+below : (n : ℕ) (bs : List ℕ) → length bs ≡ n → value bs < 2 ^ width n
+below n bs e = subst (λ (m : ℕ). value bs < 2 ^ width m) e (join-lt (replicate (length bs) 8) bs)
 
 -- at most eight bytes are known by their CRC
-same-from-crc : (xs ys : List ℕ) → AreBytes xs → AreBytes ys → length xs ≡ length ys → length xs ≤ 8
+same-from-crc : (xs ys : List ℕ) → AllBytes xs → AllBytes ys → length xs ≡ length ys → length xs ≤ 8
     → crc xs ≡ crc ys → xs ≡ ys
 same-from-crc xs ys hx hy e short same =
     let n : ℕ = length xs in
-    let eight : 8 - n + n ≡ 8 = omega arith in
-    let unit : 256 ^ (8 - n) * 256 ^ n ≡ 2 ^ 64 = sym (pow-add 256 (8 - n) n) ∙ ap (λ k. 256 ^ k) eight in
-    let xs-again : bigEndian n (value xs) ≡ xs = again n xs hx refl in
-    let ys-again : bigEndian n (value ys) ≡ ys = again n ys hy (sym e) in
+    let above : ℕ = 8 * (8 - n) in
+    let all : above + width n ≡ 64 = omega (arith, sum-eights n) in
+    let unit : 2 ^ above * 2 ^ width n ≡ 2 ^ 64 = sym (pow-add 2 above (width n)) ∙ ap (λ k. 2 ^ k) all in
+    let xs-again : bytes n (value xs) ≡ xs = again n xs hx refl in
+    let ys-again : bytes n (value ys) ≡ ys = again n ys hy (sym e) in
     sym xs-again
-    ∙ ap (bigEndian n)
-    (same-value n (256 ^ (8 - n)) (value xs) (value ys) unit (below n xs hx refl) (below n ys hy (sym e))
+    ∙ ap (bytes n)
+    (same-value n (2 ^ above) (value xs) (value ys) unit (below n xs refl) (below n ys (sym e))
     (ap crc xs-again ∙ same ∙ sym (ap crc ys-again)))
     ∙ ys-again
 
@@ -88,7 +82,7 @@ xor-undo : (a b : ℕ) → bitXor a (bitXor a b) ≡ b
 xor-undo a b = sym (xor-assoc a a b) ∙ ap (λ x. bitXor x b) (xor-self a)
 
 -- and by what they make of any register
-same-from-register : (c : ℕ) (xs ys : List ℕ) → AreBytes xs → AreBytes ys → length xs ≡ length ys → length xs ≤ 8
+same-from-register : (c : ℕ) (xs ys : List ℕ) → AllBytes xs → AllBytes ys → length xs ≡ length ys → length xs ≤ 8
     → crcMore c xs ≡ crcMore c ys → xs ≡ ys
 same-from-register c xs ys hx hy e short same =
     let far : ℕ = crcMore c (zeros (length xs)) in
@@ -107,10 +101,6 @@ shows-a-changed-burst front back xs ys hx hy e short same =
     (same-from-more (crcMore c xs) (crcMore c ys) back (more-lt c xs (crc-lt front)) (more-lt c ys (crc-lt front))
     (sym (split xs) ∙ same ∙ split ys))
 
-one : (x : ℕ) → x < 256 → AreBytes (x ∷ [])
-one x h zero = h
-one x h (suc k) = lit< tt
-
 pub shows-a-changed-byte : Shows-a-changed-byte
 shows-a-changed-byte bs k x h inside hx same =
     let d : ℕ = getD bs k 0 in
@@ -119,11 +109,11 @@ shows-a-changed-byte bs k x h inside hx same =
     let changed : set bs k x ≡ front ++ (x ∷ back) = set-split bs k x inside in
     let whole : bs ≡ front ++ (d ∷ back) = sym (set-getD bs k 0) ∙ set-split bs k d inside in
     ap (λ xs. getD xs 0 0)
-    (shows-a-changed-burst front back (x ∷ []) (d ∷ []) (one x hx) (one d (h k)) refl (lit≤ tt)
+    (shows-a-changed-burst front back (x ∷ []) (d ∷ []) (hx, tt) (byte-lt bs k h, tt) refl (lit≤ tt)
     (sym (ap crc changed) ∙ same ∙ ap crc whole))
 
 pub zero-only-if-closed : Zero-only-if-closed
 zero-only-if-closed bs ys hy e none =
-    let own : List ℕ = bigEndian 8 (crc bs) in
-    same-from-register (crc bs) ys own hy (bigEndian-bytes 8 (crc bs)) e (omega arith)
+    let own : List ℕ = bytes 8 (crc bs) in
+    same-from-register (crc bs) ys own hy (bytes-all 8 (crc bs)) e (omega arith)
     (sym (crc-append bs ys) ∙ none ∙ sym (closed-gives-zero bs) ∙ crc-append bs own)

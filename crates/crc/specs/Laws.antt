@@ -1,8 +1,6 @@
 -- What the CRC is good for, as laws over all bytes. Assumes nothing.
 --
---   bigEndian n x    the n lowest bytes of the number x, the high byte first
---   xorBytes xs ys   the bytes xs and ys exclusive-ored place by place
---   AreBytes xs      each number of xs is below 256
+--   xorBytes xs ys           the bytes xs and ys exclusive-ored place by place
 --   Goes-on                  the CRC of joined bytes goes on from the CRC of the first
 --   Closed-gives-zero        bytes with their own CRC behind them have the CRC 0
 --   Zero-only-if-closed      and with any other eight bytes behind them they have not
@@ -11,41 +9,35 @@
 --   Shows-a-changed-byte     in particular no change of one byte
 use mathlib.Core.Path.{_≡_}
 use mathlib.Core.List.{List, [], _∷_, _++_}
-use Prim.Native.Nat.{ℕ, zero, suc, _/_, _%_, _^_, _<_, _≤_}
+use Prim.Native.Nat.{ℕ, _<_, _≤_}
 use lib.Bits.{bitXor}
 use lib.ListN.{length, getD, set}
+use Rattle.fields.specs.Bits.{bytes, AllBytes}
 use Rattle.crc.specs.Crc.{crc, crcMore}
-
-abbrev pub bigEndian : ℕ → ℕ → List ℕ
-bigEndian zero x = []
-bigEndian (suc n) x = (x / 256 ^ n % 256) ∷ bigEndian n x
 
 abbrev pub xorBytes : List ℕ → List ℕ → List ℕ
 xorBytes [] ys = []
 xorBytes (x ∷ xs) [] = []
 xorBytes (x ∷ xs) (y ∷ ys) = bitXor x y ∷ xorBytes xs ys
 
-abbrev pub AreBytes : List ℕ → Type 0
-AreBytes xs = (k : ℕ) → getD xs k 0 < 256
-
 abbrev pub Goes-on : Type 0
 Goes-on = (xs ys : List ℕ) → crc (xs ++ ys) ≡ crcMore (crc xs) ys
 
 abbrev pub Closed-gives-zero : Type 0
-Closed-gives-zero = (bs : List ℕ) → crc (bs ++ bigEndian 8 (crc bs)) ≡ 0
+Closed-gives-zero = (bs : List ℕ) → crc (bs ++ bytes 8 (crc bs)) ≡ 0
 
 abbrev pub Zero-only-if-closed : Type 0
 Zero-only-if-closed =
-    (bs ys : List ℕ) → AreBytes ys → length ys ≡ 8 → crc (bs ++ ys) ≡ 0 → ys ≡ bigEndian 8 (crc bs)
+    (bs ys : List ℕ) → AllBytes ys → length ys ≡ 8 → crc (bs ++ ys) ≡ 0 → ys ≡ bytes 8 (crc bs)
 
 abbrev pub Is-linear : Type 0
 Is-linear = (xs ys : List ℕ) → length xs ≡ length ys → crc (xorBytes xs ys) ≡ bitXor (crc xs) (crc ys)
 
 abbrev pub Shows-a-changed-burst : Type 0
 Shows-a-changed-burst =
-    (front back xs ys : List ℕ) → AreBytes xs → AreBytes ys → length xs ≡ length ys → length xs ≤ 8
+    (front back xs ys : List ℕ) → AllBytes xs → AllBytes ys → length xs ≡ length ys → length xs ≤ 8
     → crc (front ++ (xs ++ back)) ≡ crc (front ++ (ys ++ back)) → xs ≡ ys
 
 abbrev pub Shows-a-changed-byte : Type 0
 Shows-a-changed-byte =
-    (bs : List ℕ) (k x : ℕ) → AreBytes bs → k < length bs → x < 256 → crc (set bs k x) ≡ crc bs → x ≡ getD bs k 0
+    (bs : List ℕ) (k x : ℕ) → AllBytes bs → k < length bs → x < 256 → crc (set bs k x) ≡ crc bs → x ≡ getD bs k 0

@@ -5,7 +5,7 @@ use mathlib.Core.List.{List, [], _∷_, _++_}
 use Prim.Native.Nat.{ℕ, zero, suc, _+_, _*_, _/_, _%_, _^_, _<_}
 use native.Mathlib.Nat.{le-of-suc-le-suc, not-suc-le-zero, mod-lt, mod-eq-of-lt, mod-mod, mod-one, add-zero, mul-assoc, add-comm, add-assoc, add-mul-div-right, add-mul-mod-self-right}
 use native.Mathlib.Omega.{arith}
-use lib.ListN.{length, replicate, length-replicate}
+use lib.ListN.{length, getD, replicate, length-replicate}
 use lib.Pow.{pow-add, pow-pos, high, low, mod-pow-add}
 use lib.Arith.{digits-lt, lt-one}
 use lib.Dec.{eqb, lit<}
@@ -120,3 +120,14 @@ pub bit-flag : (x : ℕ) → x < 2 → bit (eqb x 1) ≡ x
 bit-flag zero h = refl
 bit-flag (suc zero) h = refl
 bit-flag (suc (suc x)) h = absurd (not-suc-le-zero (le-of-suc-le-suc (le-of-suc-le-suc h)))
+
+-- ---- each byte of bytes
+
+pub byte-lt : (bs : List ℕ) (k : ℕ) → AllBytes bs → getD bs k 0 < 256
+byte-lt [] k h = lit< tt
+byte-lt (b ∷ bs) zero h = h .0
+byte-lt (b ∷ bs) (suc k) h = byte-lt bs k (h .1)
+
+pub all-bytes : (bs : List ℕ) → ((k : ℕ) → getD bs k 0 < 256) → AllBytes bs
+all-bytes [] h = tt
+all-bytes (b ∷ bs) h = (h 0, all-bytes bs (λ k. h (suc k)))

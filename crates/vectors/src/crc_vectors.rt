@@ -36,7 +36,8 @@ const CRC64_ECMA182_UNREFLECTED_OF_FILL_7: [u64; 41] = [
     0x5C8E71D73403E6C0,
 ];
 
-const BODY_LEN: usize = 8248;
+// The bytes that the CRC of a block is over.
+pub(crate) const BODY_LEN: usize = 8248;
 
 const BLOCK_LEN: usize = 8256;
 

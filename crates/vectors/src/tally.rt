@@ -22,21 +22,18 @@ impl Tally {
         }
     }
 
-    // Counts one comparison, and says whether the two agree.
-    fn count(&mut self, found: u64, wanted: u64) -> bool
-        ensures answer { λ r. ⌜ r ≡ eqb found wanted ⌝ }
+    // Counts one comparison.
+    fn count(&mut self, right: bool)
         ensures compared { λ _. ⌜ now (self .exit) .compared ≡ more (now (self .entry) .compared) ⌝ }
-        ensures wrong { λ _. ⌜ now (self .exit) .wrong ≡ wrongAfter (now (self .entry) .wrong) found wanted ⌝ }
+        ensures wrong { λ _. ⌜ now (self .exit) .wrong ≡ wrongAfter (now (self .entry) .wrong) right ⌝ }
     {
         self.compared = self.compared.saturating_add(1);
-        if found == wanted {
-            return true;
+        if !right {
+            self.wrong = self.wrong.saturating_add(1);
         }
-        self.wrong = self.wrong.saturating_add(1);
-        false
     }
 
-    // Counts one comparison and prints it.
+    // Counts the comparison of two numbers and prints it.
     pub fn compare<N: fmt::Display + Drop>(
         &mut self,
         rt: &LibcRuntime,
@@ -45,12 +42,32 @@ impl Tally {
         wanted: u64,
     ) -> io::Result<()>
         ensures compared { λ _. ⌜ now (self .exit) .compared ≡ more (now (self .entry) .compared) ⌝ }
-        ensures wrong { λ _. ⌜ now (self .exit) .wrong ≡ wrongAfter (now (self .entry) .wrong) found wanted ⌝ }
+        ensures wrong { λ _. ⌜ now (self .exit) .wrong ≡ wrongAfter (now (self .entry) .wrong) (eqb found wanted) ⌝ }
     {
-        if self.count(found, wanted) {
+        let right = found == wanted;
+        self.count(right);
+        if right {
             println!(rt, "ok {name}: {found:016X}")
         } else {
             println!(rt, "MISMATCH {name}: {found:016X}, not {wanted:016X}")
+        }
+    }
+
+    // Counts an answer that is as it should be, or is not, and prints its name.
+    pub fn check<N: fmt::Display + Drop>(
+        &mut self,
+        rt: &LibcRuntime,
+        name: N,
+        right: bool,
+    ) -> io::Result<()>
+        ensures compared { λ _. ⌜ now (self .exit) .compared ≡ more (now (self .entry) .compared) ⌝ }
+        ensures wrong { λ _. ⌜ now (self .exit) .wrong ≡ wrongAfter (now (self .entry) .wrong) right ⌝ }
+    {
+        self.count(right);
+        if right {
+            println!(rt, "ok {name}")
+        } else {
+            println!(rt, "MISMATCH {name}")
         }
     }
 }

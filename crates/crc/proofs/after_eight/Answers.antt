@@ -5,19 +5,20 @@ use native.Mathlib.Omega.{arith}
 use borrow.Author.Needs.{needs}
 use lib.Bits.{bitXor}
 use lib.ListN.{length}
+use Rattle.fields.specs.Bits.{bytes, AllBytes}
+use Rattle.fields.proofs.BitLaws.{all-bytes}
 use Rattle.crc.specs.Crc.{crc}
-use Rattle.crc.specs.Laws.{bigEndian, AreBytes}
 use Rattle.crc.proofs.Eights.{word, taken, taken-is, more-word, crc-by-tables}
 use Rattle.crc.proofs.after_eight.Needs as need
 
 pub returns : need.returns
 returns c =
     let w : ℕ = bitXor (c .args .register) (word (c .args .bytes)) in
-    let parts : c .to-be-bytes .result ≡ bigEndian 8 w =
+    let parts : c .to-be-bytes .result ≡ bytes 8 w =
     c .to-be-bytes .ensures
     ∙ ap (λ x. taken (bitXor (c .args .register) x)) (c .from-be-bytes .ensures) ∙ taken-is w in
     let eight : length (c .args .bytes) ≡ 8 = search needs in
-    let bytes : AreBytes (c .args .bytes) = λ k. search needs in
+    let proper : AllBytes (c .args .bytes) = all-bytes (c .args .bytes) (λ k. search needs) in
     ap₂ bitXor (c .entry-5 .ensures)
     (ap₂ bitXor (c .entry-6 .ensures)
     (ap₂ bitXor (c .entry-7 .ensures)
@@ -26,4 +27,4 @@ returns c =
     (ap₂ bitXor (c .entry-2 .ensures) (ap₂ bitXor (c .entry-3 .ensures) (c .entry-4 .ensures)))))))
     ∙ sym (crc-by-tables (c .to-be-bytes .result) (ap length parts))
     ∙ ap crc parts
-    ∙ sym (more-word (c .args .register) (c .args .bytes) (omega (arith, c .fits .register)) bytes eight)
+    ∙ sym (more-word (c .args .register) (c .args .bytes) (omega (arith, c .fits .register)) proper eight)
