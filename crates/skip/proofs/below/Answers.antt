@@ -1,3 +1,4 @@
+-- Stepping over the bad places one by one ends at the unlisted place. Assumes nothing.
 use native.Mathlib.Omega.{arith}
 use mathlib.Core.Path.{sym, _∙_}
 use lib.ListN.{getD}

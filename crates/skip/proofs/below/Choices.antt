@@ -1,3 +1,4 @@
+-- What stepping over the bad places keeps. Assumes nothing.
 use Prim.Native.Nat.{_≤_, _+_}
 use mathlib.Core.Path.{_≡_}
 use lib.ListN.{drop}

@@ -1,3 +1,4 @@
+-- A put or a strike changes its own place at most. Assumes nothing.
 use Prim.Native.Nat.{ℕ}
 use mathlib.Core.Path.{_≡_, refl, ap, _∙_}
 use mathlib.Core.List.{List}

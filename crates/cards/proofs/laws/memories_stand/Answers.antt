@@ -1,3 +1,4 @@
+-- A put or a strike changes no byte of a memory but those of its row or mark. Assumes nothing.
 use mathlib.Core.Path.{_≡_, refl}
 use lib.ListN.{length, getD}
 use Rattle.cards.specs.Calls.{judged, judgedPlace, ifGranted}

@@ -1,3 +1,4 @@
+-- What a copy to a part of a memory leaves is the memory with the bytes laid over it. Assumes nothing.
 use borrow.Author.Needs.{needs}
 use native.Mathlib.Omega.{arith}
 use Rattle.std.proofs.shelf.Lists.{drop-drop}

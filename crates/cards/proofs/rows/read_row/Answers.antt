@@ -1,3 +1,4 @@
+-- What reading a row answers and copies, by what its mark was read as. Assumes nothing.
 use borrow.Author.Needs.{needs}
 use native.Mathlib.Omega.{arith}
 use mathlib.Core.Path.{_≡_, refl, sym, ap, _∙_}

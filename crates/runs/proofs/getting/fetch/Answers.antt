@@ -1,3 +1,4 @@
+-- A place behind the last one gives zeros. Assumes nothing.
 use native.Mathlib.Omega.{arith}
 use mathlib.Core.Path.{sym, ap, _∙_}
 use Prim.Native.Nat.{_+_}

@@ -1,3 +1,4 @@
+-- Getting the places in turn fills the work area with their bytes. Assumes nothing.
 use borrow.Author.Needs.{needs}
 use native.Mathlib.Omega.{arith}
 use mathlib.Core.Path.{_≡_, sym, ap, _∙_}

@@ -1,3 +1,4 @@
+-- What getting the places in turn keeps. Assumes nothing.
 use Prim.Native.Nat.{_*_}
 use mathlib.Core.Path.{_≡_}
 use mathlib.Core.List.{_++_}

@@ -1,3 +1,4 @@
+-- A block of joined blocks is the part of them that begins at its index. Assumes nothing.
 use native.Mathlib.Omega.{arith}
 use Prim.Native.Nat.{_+_, _-_, _*_}
 use mathlib.Core.Path.{_≡_, ap}

@@ -1,3 +1,4 @@
+-- Putting copies in turn lays them over the places. Assumes nothing.
 use native.Mathlib.Omega.{arith}
 use mathlib.Core.Path.{_≡_, ap, _∙_}
 use lib.ListN.{replicate}

@@ -1,3 +1,4 @@
+-- What putting copies in turn keeps. Assumes nothing.
 use mathlib.Core.Path.{_≡_}
 use lib.Seq.{paste}
 use lib.ListN.{replicate}

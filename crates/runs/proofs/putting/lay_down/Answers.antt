@@ -1,3 +1,4 @@
+-- Putting joined blocks, the top place first, lays them over the places. Assumes nothing.
 use native.Mathlib.Omega.{arith}
 use mathlib.Core.Path.{ap, _∙_}
 use Prim.Native.Nat.{_+_, _-_}

@@ -1,3 +1,4 @@
+-- What putting joined blocks, the top place first, keeps. Assumes nothing.
 use mathlib.Core.Path.{_≡_}
 use Rattle.runs.specs.Runs.{blocks}
 use Rattle.runs.proofs.DownLaws.{downTo}

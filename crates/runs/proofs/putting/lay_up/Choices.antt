@@ -1,3 +1,4 @@
+-- What putting joined blocks, the first place first, keeps. Assumes nothing.
 use mathlib.Core.Path.{_≡_}
 use lib.Seq.{paste}
 use Rattle.runs.specs.Runs.{blocks}

@@ -1,3 +1,4 @@
+-- The table of a new skip card begins with its list, and its places are the unlisted ones. Assumes nothing.
 use native.Mathlib.Omega.{arith}
 use mathlib.Core.Path.{refl, ap, _∙_}
 use lib.ListN.{length}

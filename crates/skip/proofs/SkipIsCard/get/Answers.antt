@@ -1,3 +1,4 @@
+-- What a get of a skip card answers and copies, from the get below. Assumes nothing.
 use borrow.Author.Needs.{needs}
 use native.Mathlib.Omega.{arith}
 use mathlib.Core.Path.{_≡_, refl, sym, ap, _∙_}

@@ -1,3 +1,4 @@
+-- The places of a skip card are those below less the listed ones. Assumes nothing.
 use native.Mathlib.Omega.{arith}
 use lib.ListN.{take}
 use Rattle.std.proofs.shelf.Lists.{length-take-le}

@@ -1,3 +1,4 @@
+-- What a put of a skip card leaves at its places and below. Assumes nothing.
 use borrow.Author.Needs.{needs}
 use native.Mathlib.Omega.{arith}
 use mathlib.Core.Path.{_≡_, refl, sym, ap, _∙_}

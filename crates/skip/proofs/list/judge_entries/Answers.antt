@@ -1,3 +1,4 @@
+-- Judging the entries in turn refuses by the first that is not good. Assumes nothing.
 use native.Mathlib.Omega.{arith}
 use mathlib.Core.Path.{sym, _∙_}
 use mathlib.Core.List.{[], _∷_}

@@ -1,3 +1,4 @@
+-- What judging the entries in turn keeps. Assumes nothing.
 use Prim.Native.Nat.{_-_}
 use mathlib.Core.Path.{_≡_}
 use lib.ListN.{length}

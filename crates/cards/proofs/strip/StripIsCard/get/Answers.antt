@@ -1,3 +1,4 @@
+-- What a get of a strip card answers and copies, refused and granted. Assumes nothing.
 use borrow.Author.Needs.{needs}
 use native.Mathlib.Omega.{arith}
 use Rattle.cards.proofs.RowLaws.{length-rows, content-at-rows}

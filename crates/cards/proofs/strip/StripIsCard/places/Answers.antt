@@ -1,3 +1,4 @@
+-- The places of a strip card are the rows of its memory. Assumes nothing.
 use mathlib.Core.Path.{sym, _∙_}
 use Rattle.cards.proofs.RowLaws.{length-rows}
 use Rattle.cards.proofs.strip.StripIsCard.places.Needs as need

@@ -1,3 +1,4 @@
+-- What a strike of a strip card leaves in its memory and at its places. Assumes nothing.
 use borrow.Author.Needs.{needs}
 use mathlib.Core.Path.{_≡_, refl, ap, _∙_}
 use Rattle.cards.specs.Rows.{rows, strikeMemory}

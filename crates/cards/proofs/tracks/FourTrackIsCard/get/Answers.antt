@@ -1,3 +1,4 @@
+-- What a get of a four-track card answers and copies, refused and granted. Assumes nothing.
 use borrow.Author.Needs.{needs}
 use Rattle.cards.specs.Memories.{memories}
 use Rattle.cards.proofs.TrackLaws.{length-dealt, content-at-dealt}

@@ -1,3 +1,4 @@
+-- The places of a four-track card are four times the rows of its shortest memory. Assumes nothing.
 use mathlib.Core.Path.{sym, ap, _∙_}
 use Prim.Native.Nat.{_*_}
 use Rattle.cards.specs.Memories.{memories}

@@ -1,3 +1,4 @@
+-- What a strike of a four-track card leaves in its memories and at its places, track by track. Assumes nothing.
 use borrow.Author.Needs.{needs}
 use mathlib.Core.Path.{_≡_, refl, ap, _∙_}
 use mathlib.Core.List.{[], _∷_}
