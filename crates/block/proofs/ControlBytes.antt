@@ -3,12 +3,12 @@ use mathlib.Core.Path.{_≡_, refl, sym, ap, ap₂, _∙_}
 use mathlib.Core.List.{List, [], _∷_, _++_}
 use Prim.Native.Nat.{ℕ, _/_, _%_, _<_}
 use lib.ListN.{drop}
-use Rattle.fields.specs.Bits.{join, bytes, encode, bit}
+use Rattle.bits.specs.Fields.{join, bytes, encode, bit}
 use Rattle.block.specs.Control.{widths1, fields1, bytes1, widths2, fields2, bytes2}
 use Rattle.block.specs.declared.control.Control1.{Control1}
 use Rattle.block.specs.declared.control.Control2.{Control2}
-use Rattle.fields.proofs.Groups.{group}
-use Rattle.fields.proofs.Digits.{bytes-one, bytes-two, bytes-three, bytes-four, bytes-nine, encode-one}
+use Rattle.bits.proofs.Groups.{group}
+use Rattle.bits.proofs.Digits.{bytes-one, bytes-two, bytes-three, bytes-four, bytes-nine, encode-one}
 
 abbrev head1 : Control1 → ℕ
 head1 c = join (26 ∷ 6 ∷ []) (c .reserved ∷ c .format ∷ [])

@@ -6,7 +6,7 @@ use Prim.Native.Nat.{ℕ, zero, suc, _*_, _/_, _%_, _^_, _<_}
 use native.Mathlib.Nat.{mod-lt, le-of-suc-le-suc, not-suc-le-zero}
 use lib.ListN.{length, getD, take, drop}
 use lib.Dec.{eqb, lit<}
-use Rattle.fields.specs.Bits.{bit, decode, encode, value, split, join, AllBytes}
+use Rattle.bits.specs.Fields.{bit, decode, encode, value, split, join, AllBytes}
 use Rattle.block.specs.Control.{
   widths1,
   fields1,
@@ -25,7 +25,7 @@ use Rattle.block.specs.Control.{
 }
 use Rattle.block.specs.declared.control.Control1.{Control1}
 use Rattle.block.specs.declared.control.Control2.{Control2}
-use Rattle.fields.proofs.BitLaws.{decode-encode, encode-decode, bytes-all, flag-bit, bit-flag}
+use Rattle.bits.proofs.BitLaws.{decode-encode, encode-decode, bytes-all, flag-bit, bit-flag}
 
 control1-fields : (c : Control1) → fromFields1 (fields1 c) ≡ c
 control1-fields c = λ i. record {

@@ -6,12 +6,12 @@ use native.Mathlib.Nat.{div-one}
 use native.Mathlib.Omega.{arith}
 use lib.ListN.{length, take, drop, length-take, length-drop}
 use lib.Dec.{eqb}
-use Rattle.fields.specs.Bits.{split, value, decode}
+use Rattle.bits.specs.Fields.{split, value, decode}
 use Rattle.block.specs.Control.{widths1, fromFields1, control1Of, widths2, fromFields2, control2Of}
 use Rattle.block.specs.declared.control.Control1.{Control1}
 use Rattle.block.specs.declared.control.Control2.{Control2}
-use Rattle.fields.proofs.Groups.{degroup, degroup-last}
-use Rattle.fields.proofs.Digits.{decode-one}
+use Rattle.bits.proofs.Groups.{degroup, degroup-last}
+use Rattle.bits.proofs.Digits.{decode-one}
 
 long : (n a : ℕ) (bs : List ℕ) → a + n ≤ length bs → length (take n (drop a bs)) ≡ n
 long n a bs h = simp (length-take, length-drop) (omega arith)

@@ -5,7 +5,7 @@ use Prim.Native.Nat.{ℕ, _+_, _*_, _<_}
 use native.Mathlib.Omega.{arith}
 use lib.Bits.{bitXor, xor-lt}
 use lib.Dec.{lit<}
-use Rattle.fields.specs.Bits.{AllBytes}
+use Rattle.bits.specs.Fields.{AllBytes}
 use Rattle.block.specs.Edc.{words, turned, edcWords, edc}
 
 turned-lt : (w : ℕ) → w < 65536 → turned w < 65536

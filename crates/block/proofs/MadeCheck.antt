@@ -7,9 +7,9 @@ use native.Mathlib.Nat.{mod-eq-of-lt}
 use native.Mathlib.Omega.{arith}
 use lib.ListN.{length, getD, take, drop, length-append, length-drop}
 use Rattle.std.proofs.shelf.Lists.{take-at, drop-at, append-assoc, take-append-le, drop-append-le}
-use Rattle.fields.specs.Bits.{AllBytes, decode, encode, bit}
-use Rattle.fields.proofs.BitLaws.{decode-narrows}
-use Rattle.fields.proofs.Groups.{group, decode-append}
+use Rattle.bits.specs.Fields.{AllBytes, decode, encode, bit}
+use Rattle.bits.proofs.BitLaws.{decode-narrows}
+use Rattle.bits.proofs.Groups.{group, decode-append}
 use Rattle.block.specs.Control.{widths1, fields1, fromFields1, bytes1, control1Of, bytes2, control2Of}
 use Rattle.block.specs.Made.{checkControl}
 use Rattle.block.specs.Block.{sealed, checkBlock, control1At, control2At, crcAgrees, edcAgrees, soundKind}

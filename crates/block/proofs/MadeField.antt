@@ -9,8 +9,8 @@ use borrow.Author.Tests.{eq-eqb}
 use lib.Dec.{lit<}
 use lib.ListN.{length, getD, take, drop, length-append, length-replicate}
 use Rattle.std.proofs.shelf.Lists.{take-at, drop-at, append-assoc, getD-drop, getD-take}
-use Rattle.fields.specs.Bits.{AllBytes, Within}
-use Rattle.fields.proofs.BitLaws.{bytes-all, decode-narrows}
+use Rattle.bits.specs.Fields.{AllBytes, Within}
+use Rattle.bits.proofs.BitLaws.{bytes-all, decode-narrows}
 use Rattle.block.specs.Control.{widths1, fields1, fromFields1, bytes1, control1Of, widths2, fields2, bytes2, control2Of}
 use Rattle.block.specs.Edc.{edc}
 use Rattle.block.specs.Block.{zeros, wordBytes, sealed, fieldBlock, dataField, control1At, control2At, crcAgrees, edcAgrees, soundKind, sound}

@@ -8,8 +8,8 @@ use native.Mathlib.Omega.{arith}
 use borrow.Author.Tests.{eq-eqb}
 use lib.ListN.{length, take, drop, length-append, length-drop}
 use Rattle.std.proofs.shelf.Lists.{take-at, drop-at, take-all, take-append-le, drop-append-le}
-use Rattle.fields.specs.Bits.{bytes, value, AllBytes}
-use Rattle.fields.proofs.BitLaws.{length-bytes, value-bytes, bytes-all}
+use Rattle.bits.specs.Fields.{bytes, value, AllBytes}
+use Rattle.bits.proofs.BitLaws.{length-bytes, value-bytes, bytes-all}
 use Rattle.crc.specs.Crc.{crc}
 use Rattle.crc.proofs.Linear.{crc-lt}
 use Rattle.block.specs.Block.{sealed, crcAgrees}

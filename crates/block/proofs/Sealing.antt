@@ -4,8 +4,8 @@ use mathlib.Core.List.{List, [], _∷_, _++_}
 use Prim.Native.Nat.{ℕ, _+_, _/_, _%_, _≤_}
 use lib.ListN.{length, take, drop, replicate}
 use Rattle.std.proofs.shelf.Lists.{append-assoc, take-all}
-use Rattle.fields.specs.Bits.{bytes}
-use Rattle.fields.proofs.Digits.{bytes-eight}
+use Rattle.bits.specs.Fields.{bytes}
+use Rattle.bits.proofs.Digits.{bytes-eight}
 use Rattle.crc.specs.Crc.{crc}
 use Rattle.block.specs.Control.{bytes1, bytes2}
 use Rattle.block.specs.Edc.{edc}

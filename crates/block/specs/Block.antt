@@ -18,7 +18,7 @@ use lib.ListN.{length, getD, take, drop, replicate}
 use lib.Dec.{eqb}
 use Rattle.std.specs.declared.result.Result.the-variants.{Ok, Err}
 use Rattle.refusal.specs.Tells.{Answer}
-use Rattle.fields.specs.Bits.{bytes, value}
+use Rattle.bits.specs.Fields.{bytes, value}
 use Rattle.crc.specs.Crc.{crc}
 use Rattle.block.specs.Control.{bytes1, control1Of, bytes2, control2Of}
 use Rattle.block.specs.Edc.{edc}

@@ -9,7 +9,7 @@ use mathlib.Core.List.{List, [], _∷_}
 use Prim.Native.Nat.{ℕ}
 use lib.ListN.{length, getD}
 use lib.Dec.{eqb}
-use Rattle.fields.specs.Bits.{encode, decode, bit, Within, AllBytes}
+use Rattle.bits.specs.Fields.{encode, decode, bit, Within, AllBytes}
 use Rattle.block.specs.declared.control.Control1.{Control1}
 use Rattle.block.specs.declared.control.Control2.{Control2}
 

@@ -9,7 +9,7 @@ use mathlib.Core.Bool.{true}
 use mathlib.Core.List.{List}
 use Prim.Native.Nat.{ℕ, _^_, _<_}
 use lib.ListN.{length, take}
-use Rattle.fields.specs.Bits.{Within, AllBytes}
+use Rattle.bits.specs.Fields.{Within, AllBytes}
 use Rattle.block.specs.Control.{widths1, fields1, widths2, fields2}
 use Rattle.block.specs.Made.{dataControl, endControl, endPlace}
 use Rattle.block.specs.Block.{zeros, dataField, control1At, control2At, dataBlock, endBlock, checkBlock, sound}

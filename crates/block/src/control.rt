@@ -3,7 +3,7 @@ ghost use mathlib.Core.Path.{_≡_};
 ghost use Prim.Native.Nat.{ℕ, _+_, _*_, _/_, _%_, _<_};
 ghost use lib.ListN.{length, getD};
 ghost use mathlib.Core.List.{[], _∷_};
-ghost use Rattle.fields.specs.Bits.{join, bit, sized};
+ghost use Rattle.bits.specs.Fields.{join, bit, sized};
 ghost use Rattle.block.specs.Control.{bytes1, control1Of, bytes2, control2Of};
 use crate::number::four;
 use crate::number::nine;

@@ -2,7 +2,7 @@
 ghost use mathlib.Core.Path.{_≡_};
 ghost use Prim.Native.Nat.{_+_, _≤_, _<_, _^_};
 ghost use lib.ListN.{length, take, drop};
-ghost use Rattle.fields.specs.Bits.{value};
+ghost use Rattle.bits.specs.Fields.{value};
 
 // The number in two bytes.
 pub(crate) fn two(bytes: &[u8], at: usize) -> u16

@@ -7,9 +7,9 @@ use lib.Bits.{bitXor}
 use lib.ListN.{length, getD, take, drop}
 use Rattle.std.proofs.shelf.Counted.{fill-by-all}
 use Rattle.std.proofs.shelf.Lists.{getD-take, length-take-le, take-append-drop}
-use Rattle.fields.specs.Bits.{bytes, value, AllBytes}
-use Rattle.fields.proofs.BitLaws.{bytes-value}
-use Rattle.fields.proofs.Digits.{bytes-eight}
+use Rattle.bits.specs.Fields.{bytes, value, AllBytes}
+use Rattle.bits.proofs.BitLaws.{bytes-value}
+use Rattle.bits.proofs.Digits.{bytes-eight}
 use Rattle.crc.specs.Crc.{crc, crcMore}
 use Rattle.crc.specs.Laws.{xorBytes}
 use Rattle.crc.proofs.Linear.{sliced, crc-sliced, more-append}

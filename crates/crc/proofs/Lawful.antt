@@ -10,8 +10,8 @@ use lib.ListN.{length, getD, set, take, drop, replicate}
 use Rattle.std.proofs.shelf.Bits.{pow-add}
 use Rattle.std.proofs.shelf.Lists.{set-getD, set-split}
 use Rattle.crc.specs.Crc.{crc, crcMore}
-use Rattle.fields.specs.Bits.{bytes, value, AllBytes}
-use Rattle.fields.proofs.BitLaws.{join-lt, sum-eights, bytes-all, bytes-value, byte-lt}
+use Rattle.bits.specs.Fields.{bytes, value, AllBytes}
+use Rattle.bits.proofs.BitLaws.{join-lt, sum-eights, bytes-all, bytes-value, byte-lt}
 use Rattle.crc.specs.Laws.{
   Closed-gives-zero,
   Zero-only-if-closed,

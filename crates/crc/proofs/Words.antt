@@ -19,8 +19,8 @@ use lib.Bits.{bitXor, xor-mod, xor-shr}
 use lib.Dec.{lit<}
 use lib.ListN.{length, replicate}
 use Rattle.std.proofs.shelf.Bits.{pow-add, field-of}
-use Rattle.fields.specs.Bits.{sum, bytes}
-use Rattle.fields.proofs.BitLaws.{length-bytes}
+use Rattle.bits.specs.Fields.{sum, bytes}
+use Rattle.bits.proofs.BitLaws.{length-bytes}
 use Rattle.crc.specs.Crc.{crc, crcByte, crcMore}
 use Rattle.crc.specs.Laws.{xorBytes}
 use Rattle.crc.proofs.Steps.{byte-top}

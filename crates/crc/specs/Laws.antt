@@ -12,7 +12,7 @@ use mathlib.Core.List.{List, [], _∷_, _++_}
 use Prim.Native.Nat.{ℕ, _<_, _≤_}
 use lib.Bits.{bitXor}
 use lib.ListN.{length, getD, set}
-use Rattle.fields.specs.Bits.{bytes, AllBytes}
+use Rattle.bits.specs.Fields.{bytes, AllBytes}
 use Rattle.crc.specs.Crc.{crc, crcMore}
 
 abbrev pub xorBytes : List ℕ → List ℕ → List ℕ

@@ -7,13 +7,13 @@ use native.Mathlib.Nat.{mod-lt, div-one}
 use native.Mathlib.Omega.{arith}
 use lib.ListN.{length, getD, take, drop, length-take, length-drop}
 use lib.Dec.{eqb, lit<}
-use Rattle.fields.specs.Bits.{join, split, bytes, value, encode, decode, bit}
+use Rattle.bits.specs.Fields.{join, split, bytes, value, encode, decode, bit}
 use Rattle.pages.specs.Entry.{entryWidths, entryFields, fromEntryFields, entryBytes, entryOf, Entry-decodes, Entry-encodes}
 use Rattle.pages.specs.declared.entry.Entry.{Entry}
-use Rattle.fields.proofs.BitLaws.{decode-encode, encode-decode}
-use Rattle.fields.proofs.Groups.{group, degroup, degroup-last}
-use Rattle.fields.proofs.Digits.{bytes-two, bytes-four, encode-one, decode-one}
-use Rattle.fields.proofs.BitLaws.{flag-bit, bit-flag}
+use Rattle.bits.proofs.BitLaws.{decode-encode, encode-decode}
+use Rattle.bits.proofs.Groups.{group, degroup, degroup-last}
+use Rattle.bits.proofs.Digits.{bytes-two, bytes-four, encode-one, decode-one}
+use Rattle.bits.proofs.BitLaws.{flag-bit, bit-flag}
 
 entry-fields : (e : Entry) → fromEntryFields (entryFields e) ≡ e
 entry-fields e = λ i. record {

@@ -4,7 +4,7 @@ use mathlib.Core.List.{List, [], _∷_}
 use Prim.Native.Nat.{ℕ}
 use lib.ListN.{length, getD}
 use lib.Dec.{eqb}
-use Rattle.fields.specs.Bits.{encode, decode, bit, Within, AllBytes}
+use Rattle.bits.specs.Fields.{encode, decode, bit, Within, AllBytes}
 use Rattle.pages.specs.declared.entry.Entry.{Entry}
 
 abbrev pub entryWidths : List ℕ

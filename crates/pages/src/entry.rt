@@ -2,7 +2,7 @@
 ghost use mathlib.Core.Path.{_≡_};
 ghost use mathlib.Core.List.{[], _∷_};
 ghost use lib.ListN.{length};
-ghost use Rattle.fields.specs.Bits.{join, bit, sized};
+ghost use Rattle.bits.specs.Fields.{join, bit, sized};
 ghost use Rattle.pages.specs.Entry.{entryBytes, entryOf};
 
 // Page Type of a page that only fills the block up.

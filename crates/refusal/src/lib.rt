@@ -6,7 +6,7 @@ ghost use Rattle.refusal.specs.Shown.{text};
 use std::fmt;
 
 // Why a call is refused. A refusal has a number from 1 to 15, and values that say what was wrong.
-#[derive(Clone, Copy, PartialEq, Eq, Debug)]
+#[derive(Clone, Copy, PartialEq, Eq)]
 pub enum Refusal {
     // 1: a buffer or work area has this length, and the call wants another.
     WrongLength(usize),

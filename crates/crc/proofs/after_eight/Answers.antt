@@ -5,8 +5,8 @@ use native.Mathlib.Omega.{arith}
 use borrow.Author.Needs.{needs}
 use lib.Bits.{bitXor}
 use lib.ListN.{length}
-use Rattle.fields.specs.Bits.{bytes, AllBytes}
-use Rattle.fields.proofs.BitLaws.{all-bytes}
+use Rattle.bits.specs.Fields.{bytes, AllBytes}
+use Rattle.bits.proofs.BitLaws.{all-bytes}
 use Rattle.crc.specs.Crc.{crc}
 use Rattle.crc.proofs.Eights.{word, taken, taken-is, more-word, crc-by-tables}
 use Rattle.crc.proofs.after_eight.Needs as need

@@ -1,5 +1,5 @@
 -- Four bytes and four more. Assumes nothing.
-use Rattle.fields.proofs.Numbers.{value-eight}
+use Rattle.bits.proofs.Numbers.{value-eight}
 use native.Mathlib.Omega.{arith}
 use Rattle.block.proofs.number.eight.Needs as need
 

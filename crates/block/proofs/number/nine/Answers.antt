@@ -4,7 +4,7 @@ use Prim.Native.Nat.{ℕ, _+_, _<_, _≤_}
 use native.Mathlib.Omega.{arith}
 use borrow.Author.Needs.{needs}
 use lib.ListN.{getD}
-use Rattle.fields.proofs.Numbers.{value-nine}
+use Rattle.bits.proofs.Numbers.{value-nine}
 use Rattle.block.proofs.number.nine.Needs as need
 
 pub returns : need.returns

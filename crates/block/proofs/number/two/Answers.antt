@@ -3,7 +3,7 @@ use mathlib.Core.Path.{_∙_, sym}
 use Prim.Native.Nat.{ℕ, _<_}
 use borrow.Author.Needs.{needs}
 use lib.ListN.{getD}
-use Rattle.fields.proofs.Numbers.{value-two}
+use Rattle.bits.proofs.Numbers.{value-two}
 use Rattle.block.proofs.number.two.Needs as need
 
 pub returns : need.returns

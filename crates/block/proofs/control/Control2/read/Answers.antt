@@ -4,7 +4,7 @@ use Prim.Native.Nat.{ℕ, _<_}
 use native.Mathlib.Omega.{arith}
 use borrow.Author.Needs.{needs}
 use lib.ListN.{length, getD}
-use Rattle.fields.proofs.Numbers.{value-one}
+use Rattle.bits.proofs.Numbers.{value-one}
 use Rattle.block.proofs.ControlRead.{control2-is}
 use Rattle.block.proofs.control.Control2.read.Needs as need
 

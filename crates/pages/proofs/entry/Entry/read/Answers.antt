@@ -4,7 +4,7 @@ use Prim.Native.Nat.{ℕ, _<_}
 use native.Mathlib.Omega.{arith}
 use borrow.Author.Needs.{needs}
 use lib.ListN.{getD}
-use Rattle.fields.proofs.Numbers.{value-two, value-four}
+use Rattle.bits.proofs.Numbers.{value-two, value-four}
 use Rattle.pages.proofs.EntryLaws.{entry-is}
 use Rattle.pages.proofs.entry.Entry.read.Needs as need
 

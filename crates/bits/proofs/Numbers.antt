@@ -5,8 +5,8 @@ use Prim.Native.Nat.{ℕ, zero, suc, _+_, _*_, _%_, _^_, _<_, _≤_}
 use native.Mathlib.Omega.{arith}
 use lib.ListN.{length, getD, take, drop, length-take, length-drop}
 use Rattle.std.proofs.shelf.Lists.{drop-more, drop-drop, take-more, getD-drop}
-use Rattle.fields.specs.Bits.{value}
-use Rattle.fields.proofs.Groups.{value-append}
+use Rattle.bits.specs.Fields.{value}
+use Rattle.bits.proofs.Groups.{value-append}
 
 -- n elements of a list from a on
 pub part : List ℕ → ℕ → ℕ → List ℕ

@@ -1,6 +1,6 @@
 -- Fields go into bytes and come out again. Assumes nothing.
-use Rattle.fields.proofs.BitLaws.{decode-narrows, decode-encode, encode-decode}
-use Rattle.fields.proofs.fields_stand.Needs as need
+use Rattle.bits.proofs.BitLaws.{decode-narrows, decode-encode, encode-decode}
+use Rattle.bits.proofs.layouts_stand.Needs as need
 
 pub returns : need.returns
 returns c = record { narrows = decode-narrows; decodes = decode-encode; encodes = encode-decode }

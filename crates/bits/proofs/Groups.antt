@@ -7,8 +7,8 @@ use native.Mathlib.Omega.{arith}
 use lib.ListN.{length, replicate, take, drop, length-take, length-drop, length-append}
 use lib.Pow.{pow-add, high, low, split as parts, shr-shr}
 use Rattle.std.proofs.shelf.Lists.{take-append-drop, drop-drop, take-all}
-use Rattle.fields.specs.Bits.{sum, join, split, bytes, value, encode, decode}
-use Rattle.fields.proofs.BitLaws.{join-lt, split-low, sum-eights, length-bytes, value-lt}
+use Rattle.bits.specs.Fields.{sum, join, split, bytes, value, encode, decode}
+use Rattle.bits.proofs.BitLaws.{join-lt, split-low, sum-eights, length-bytes, value-lt}
 
 pub sum-append : (ws us : List ℕ) → sum (ws ++ us) ≡ sum ws + sum us
 sum-append [] us = omega arith

@@ -8,8 +8,8 @@ use native.Mathlib.Omega.{arith}
 use borrow.Author.Tests.{eq-eqb}
 use lib.ListN.{length, replicate}
 use Rattle.std.specs.declared.option.Option.the-variants.{Some, None}
-use Rattle.fields.specs.Bits.{sum, join, split, bytes, value, encode, decode, sized}
-use Rattle.fields.proofs.BitLaws.{split-low, sum-eights, value-lt}
+use Rattle.bits.specs.Fields.{sum, join, split, bytes, value, encode, decode, sized}
+use Rattle.bits.proofs.BitLaws.{split-low, sum-eights, value-lt}
 
 -- the last byte of a number
 last : (x : ℕ) → x / 1 % 256 ≡ x % 256

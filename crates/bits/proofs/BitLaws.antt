@@ -9,7 +9,7 @@ use lib.ListN.{length, getD, replicate, length-replicate}
 use lib.Pow.{pow-add, pow-pos, high, low, mod-pow-add}
 use lib.Arith.{digits-lt, lt-one}
 use lib.Dec.{eqb, lit<}
-use Rattle.fields.specs.Bits.{sum, bit, join, split, bytes, value, encode, decode, Within, AllBytes, narrow, Decode-narrows, Decode-encode, Encode-decode}
+use Rattle.bits.specs.Fields.{sum, bit, join, split, bytes, value, encode, decode, Within, AllBytes, narrow, Decode-narrows, Decode-encode, Encode-decode}
 
 pub join-lt : (ws vs : List ℕ) → join ws vs < 2 ^ sum ws
 join-lt [] vs = lit< tt
