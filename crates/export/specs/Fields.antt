@@ -2,7 +2,11 @@
 --
 --   headerFrom f   what they say in Control Field 1
 --   placeFrom f    what they say in Control Field 2; reserved bits, K and track are ZERO
+--   sealedAs b f   what the buffer b holds after its Data Field is sealed with them
 use mathlib.Core.Bool.{false}
+use mathlib.Core.List.{List}
+use Prim.Native.Nat.{ℕ}
+use Rattle.block.specs.Block.{dataField, dataBlock, madeOf}
 use Rattle.block.specs.declared.control.Control2.{Control2}
 use Rattle.block.specs.declared.header.DataHeader.{DataHeader}
 use Rattle.export.specs.declared.DataFields.{DataFields}
@@ -30,3 +34,6 @@ placeFrom f = record {
   k = false;
   track = 0;
 }
+
+abbrev pub sealedAs : List ℕ → DataFields → List ℕ
+sealedAs b f = madeOf b (dataBlock (dataField b) (headerFrom f) (placeFrom f))

@@ -3,8 +3,8 @@ ghost use mathlib.Core.Path.{_≡_};
 ghost use Rattle.refusal.specs.Tells.{told};
 ghost use Rattle.crc.specs.Crc.{crc};
 ghost use Rattle.block.specs.Edc.{edc};
-ghost use Rattle.block.specs.Block.{dataField, dataBlock, sound, lengthAnswer, madeOf};
-ghost use Rattle.export.specs.Fields.{headerFrom, placeFrom};
+ghost use Rattle.block.specs.Block.{sound, lengthAnswer};
+ghost use Rattle.export.specs.Fields.{headerFrom, placeFrom, sealedAs};
 ghost use Rattle.export.specs.Numbers.{refusedWith, verdict};
 use block::Control2;
 use block::DataHeader;
@@ -86,7 +86,7 @@ pub extern "C" fn dlt_edc(bytes: &[u8]) -> u16
 #[unsafe(no_mangle)]
 pub extern "C" fn dlt_seal_data(block: &mut [u8], fields: &DataFields) -> u8
     ensures answer { λ r. ⌜ r ≡ refusedWith (lengthAnswer (now (block .entry)) tt) ⌝ }
-    ensures block { λ _. ⌜ now (block .exit) ≡ madeOf (now (block .entry)) (dataBlock (dataField (now (block .entry))) (headerFrom (now (fields .entry))) (placeFrom (now (fields .entry)))) ⌝ }
+    ensures block { λ _. ⌜ now (block .exit) ≡ sealedAs (now (block .entry)) (now (fields .entry)) ⌝ }
 {
     refused_with(make_data(block, fields.header(), fields.at()))
 }
