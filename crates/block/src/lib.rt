@@ -1,4 +1,6 @@
 // The block of a DLT 5 tape: its control fields, how it is made and sealed, and when it is sound.
+#![tactic(auto)]
+
 mod control;
 mod edc;
 mod header;

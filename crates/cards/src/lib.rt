@@ -1,4 +1,6 @@
 // A card is all that the layers above know of a medium: places that each hold a content.
+#![tactic(auto)]
+
 mod laws;
 mod rows;
 mod strip;

@@ -1,4 +1,6 @@
 // Tries every card against a plain model: the same script on each, everything compared after each step.
+#![tactic(auto)]
+
 mod above;
 mod comparing;
 mod lent;

@@ -1,4 +1,6 @@
 // The check words behind a group of four words, from tables of products.
+#![tactic(auto)]
+
 mod group;
 mod word_0;
 mod word_1;

@@ -1,4 +1,6 @@
 // Check codes: r check words for sixteen words of a column, and missing words rebuilt.
+#![tactic(auto)]
+
 mod column;
 mod four_check;
 mod laws;

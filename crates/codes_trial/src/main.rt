@@ -1,4 +1,6 @@
 // A trial of the check codes: outside vectors, every choice of missing words, falsified words, what lies behind.
+#![tactic(auto)]
+
 mod columns;
 mod tries;
 

@@ -1,4 +1,6 @@
 // The CRC-64 of a DLT 5 block, eight bytes at a time by tables.
+#![tactic(auto)]
+
 ghost use Rattle.std.specs.Prelude.{◌≡◌, ◌<◌, ◌∷◌, replicate};
 ghost use Rattle.crc.specs.Crc.{crc, crc_byte, crc_more};
 ghost use Rattle.crc.specs.Laws.{Goes_on, ClosedGivesZero, ZeroOnlyIfClosed, IsLinear};

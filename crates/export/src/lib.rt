@@ -1,4 +1,6 @@
 // The calls that a C program can link: the library's own, under C's names.
+#![tactic(auto)]
+
 ghost use Rattle.std.specs.Prelude.{◌≡◌};
 ghost use Rattle.refusal.specs.Tells.{told};
 ghost use Rattle.crc.specs.Crc.{crc};

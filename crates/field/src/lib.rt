@@ -1,4 +1,6 @@
 // Fields of words with exclusive-or as their sum: the trait with its laws, and the field of two-byte words.
+#![tactic(auto)]
+
 mod laws;
 mod points;
 mod product;

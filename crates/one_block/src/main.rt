@@ -1,4 +1,6 @@
 // One data block, made of the records of a line, sealed, judged, and read back page by page.
+#![tactic(auto)]
+
 use block::BLOCK_LEN;
 use std::io;
 

@@ -1,4 +1,6 @@
 // The pages of a block: MAP entries, lawful maps, and the call that hands out one page.
+#![tactic(auto)]
+
 mod entry;
 mod laws;
 mod map;

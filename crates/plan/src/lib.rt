@@ -1,4 +1,6 @@
 // The plan of a write: its pages, data blocks and entities, and that following the pages gives the objects back.
+#![tactic(auto)]
+
 mod laws;
 mod page;
 

@@ -1,4 +1,6 @@
 // The refusals of the box: one enum for every layer, each case with its number and values.
+#![tactic(auto)]
+
 ghost use Rattle.std.specs.Prelude.{◌≡◌, Some};
 ghost use Rattle.refusal.specs.Tells.{number_of};
 ghost use Rattle.refusal.specs.Shown.{text};

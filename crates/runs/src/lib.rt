@@ -1,4 +1,6 @@
 // Runs of places of any card: blocks that are put one behind the other, or got so, in one call.
+#![tactic(auto)]
+
 mod getting;
 mod judging;
 mod putting;

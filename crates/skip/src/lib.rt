@@ -1,4 +1,6 @@
 // The skip card: the places of any other card without the bad ones.
+#![tactic(auto)]
+
 mod list;
 
 ghost use Rattle.std.specs.Prelude.{◌≡◌, ◌+◌, ◌-◌, ◌^◌, ◌<◌, ◌≤◌, length, take, Ok};

@@ -1,4 +1,6 @@
 // Compares what the library answers with published values and with values worked out elsewhere.
+#![tactic(auto)]
+
 use std::io;
 
 mod block_vectors;
