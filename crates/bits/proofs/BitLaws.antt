@@ -1,10 +1,10 @@
 -- Fields of bits: decoding undoes encoding, and encoding undoes decoding, by induction over the widths. Assumes nothing.
-use Rattle.std.proofs.Common.{◌≡◌, ℕ, zero, suc, ◌+◌, ◌*◌, ◌/◌, ◌%◌, ◌^◌, ◌<◌, Bool, true, false, eqb, List, [], ◌∷◌, ◌++◌, length, get_or, replicate, sym, refl, ap, ◌∙◌, subst, ap₂, le_of_suc-le-suc, not-suc-le-zero, add-zero, add_assoc, mod-lt, mod-eq_of_lt, mul_assoc, add_comm, arith, lit<, pow_pos, pow-add}
+use Rattle.std.proofs.Common.{◌≡◌, ℕ, zero, suc, ◌+◌, ◌*◌, ◌/◌, ◌%◌, ◌^◌, ◌<◌, Bool, true, false, eqb, List, [], ◌∷◌, length, get_or, replicate, sym, refl, ap, ◌∙◌, subst, ap₂, le_of_suc-le-suc, not-suc-le-zero, mod-lt, mod-eq_of_lt, mul_assoc, add_comm, arith, lit<, pow_pos, pow-add}
 use native.Mathlib.Nat.{mod-mod, mod-one, add-mul-div_right, add-mul-mod_self_right}
 use lib.ListN.{length-replicate}
-use lib.Pow.{high, low, mod-pow-add}
-use lib.Arith.{digits_lt, lt-one}
-use Rattle.bits.specs.Fields.{sum, bit, join, split, bytes, value, encode, decode, Within, AllBytes, narrow, DecodeNarrows, DecodeEncode, EncodeDecode}
+use lib.Pow.{high, mod-pow-add}
+use lib.Arith.{digits_lt}
+use Rattle.bits.specs.Fields.{sum, bit, join, split, bytes, value, Within, AllBytes, narrow, DecodeNarrows, DecodeEncode, EncodeDecode}
 
 pub join-lt : (ws vs : List ℕ) → join ws vs < 2 ^ sum ws
 join-lt [] vs = lit< tt

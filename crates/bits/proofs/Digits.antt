@@ -1,7 +1,7 @@
 -- The bytes of one number, and of the fields that share them. Assumes nothing.
-use Rattle.std.proofs.Common.{◌≡◌, ℕ, ◌+◌, ◌*◌, ◌/◌, ◌%◌, ◌^◌, ◌<◌, Bool, cond, List, [], ◌∷◌, ◌++◌, length, replicate, Some, None, sym, refl, ap, ◌∙◌, subst, ap₂, add-zero, mod-eq_of_lt, mul-one, div-one, arith, eq-eqb}
+use Rattle.std.proofs.Common.{◌≡◌, ℕ, ◌+◌, ◌*◌, ◌/◌, ◌%◌, ◌^◌, ◌<◌, Bool, cond, List, [], ◌∷◌, length, replicate, Some, None, sym, ap, ◌∙◌, subst, ap₂, add-zero, mod-eq_of_lt, mul-one, div-one, arith, eq-eqb}
 use native.Mathlib.Nat.{mod-add-div'}
-use Rattle.bits.specs.Fields.{sum, join, split, bytes, value, encode, decode, sized}
+use Rattle.bits.specs.Fields.{split, bytes, value, encode, decode, sized}
 use Rattle.bits.proofs.BitLaws.{split-low, sum_eights, value-lt}
 
 -- the last byte of a number

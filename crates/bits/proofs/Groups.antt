@@ -1,10 +1,9 @@
 -- Fields that fill whole bytes can be put together and taken apart group by group. Assumes nothing.
-use Rattle.std.proofs.Common.{◌≡◌, ℕ, zero, suc, ◌+◌, ◌-◌, ◌*◌, ◌/◌, ◌%◌, ◌^◌, ◌<◌, ◌≤◌, List, [], ◌∷◌, ◌++◌, length, take, drop, replicate, sym, refl, ap, ◌∙◌, subst, ap₂, add_assoc, mul_assoc, add-mul, add_comm, arith, length-append, length-drop, length-take, pow-add, shr-shr}
-use native.Mathlib.Nat.{div-div-eq-div-mul}
-use lib.Pow.{high, low, split as parts}
+use Rattle.std.proofs.Common.{◌≡◌, ℕ, zero, suc, ◌+◌, ◌-◌, ◌*◌, ◌/◌, ◌%◌, ◌^◌, ◌<◌, ◌≤◌, List, [], ◌∷◌, ◌++◌, length, take, drop, replicate, sym, refl, ap, ◌∙◌, subst, ap₂, add_assoc, mul_assoc, add-mul, add_comm, arith, length-append, length-drop, pow-add, shr-shr}
+use lib.Pow.{high}
 use Rattle.std.proofs.lemmas.List.{take-append-drop, drop-drop, take_all}
 use Rattle.bits.specs.Fields.{sum, join, split, bytes, value, encode, decode}
-use Rattle.bits.proofs.BitLaws.{join-lt, split-low, sum_eights, length-bytes, value-lt}
+use Rattle.bits.proofs.BitLaws.{join-lt, split-low, sum_eights, value-lt}
 
 pub sum-append : (ws us : List ℕ) → sum (ws ++ us) ≡ sum ws + sum us
 sum-append [] us = omega arith

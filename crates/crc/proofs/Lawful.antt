@@ -1,5 +1,5 @@
 -- The laws of the CRC. Assumes nothing.
-use Rattle.std.proofs.Common.{◌≡◌, ℕ, zero, suc, ◌+◌, ◌-◌, ◌*◌, ◌%◌, ◌^◌, ◌<◌, ◌≤◌, List, [], ◌∷◌, ◌++◌, length, get_or, take, drop, set, replicate, sym, refl, ap, ◌∙◌, subst, mul-le-mul_right, mod-lt, mod-eq_of_lt, suc-mul, mul_comm, arith, lit<, lit≤}
+use Rattle.std.proofs.Common.{◌≡◌, ℕ, suc, ◌+◌, ◌-◌, ◌*◌, ◌%◌, ◌^◌, ◌<◌, ◌≤◌, List, [], ◌∷◌, ◌++◌, length, get_or, take, drop, set, replicate, sym, refl, ap, ◌∙◌, subst, mul-le-mul_right, mod-lt, mod-eq_of_lt, suc-mul, mul_comm, arith, lit<, lit≤}
 use native.Mathlib.Nat.{eq_of_mul-eq-mul_right}
 use lib.Bits.{bit_xor, xor_self, xor_assoc}
 use Rattle.std.proofs.lemmas.Nat.{pow-add}

@@ -1,7 +1,7 @@
 -- A register as bytes, the high byte first. Assumes nothing.
 --
 --   width n   the bits of n bytes
-use Rattle.std.proofs.Common.{◌≡◌, ℕ, zero, suc, ◌+◌, ◌*◌, ◌/◌, ◌%◌, ◌^◌, ◌<◌, List, [], ◌∷◌, length, replicate, sym, refl, ap, ◌∙◌, ap₂, mod-lt, mod-eq_of_lt, mul_assoc, mul_comm, zero-mul, mul-one, arith, lit<}
+use Rattle.std.proofs.Common.{◌≡◌, ℕ, zero, suc, ◌+◌, ◌*◌, ◌/◌, ◌%◌, ◌^◌, ◌<◌, List, ◌∷◌, length, replicate, sym, refl, ap, ◌∙◌, ap₂, mod-lt, mod-eq_of_lt, mul_assoc, mul_comm, zero-mul, mul-one, arith, lit<}
 use native.Mathlib.Nat.{mul-mod_left, mul-div-mul_right}
 use lib.Bits.{bit_xor, xor_mod, xor_shr}
 use Rattle.std.proofs.lemmas.Nat.{pow-add, field_of}

@@ -3,7 +3,7 @@
 --   text e         the line that shows the refusal e
 --   named w n      a blank, the word w, a blank, and the number n in decimal
 --   values e       the values of e, each with its name
-use Rattle.std.specs.Prelude.{ℕ, List, [], ◌∷◌, ◌++◌, codes, decimal}
+use Rattle.std.specs.Prelude.{ℕ, List, [], ◌++◌, codes, decimal}
 use Rattle.refusal.specs.declared.Refusal.{Refusal}
 use Rattle.refusal.specs.declared.Refusal.TheVariants.{
   WrongLength,

@@ -10,9 +10,9 @@ use Rattle.crc.proofs.after_eight.Goals as goal
 pub returns : goal.returns
 returns c =
     let w : ℕ = bit_xor c.args.register (word c.args.bytes) in
-    let parts : c.to-be-bytes.result ≡ bytes 8 w =
-    c.to-be-bytes.ensures
-    ∙ ap (λ x. taken (bit_xor c.args.register x)) c.from-be-bytes.ensures ∙ taken_is w in
+    let parts : c.to_be_bytes.result ≡ bytes 8 w =
+    c.to_be_bytes.ensures
+    ∙ ap (λ x. taken (bit_xor c.args.register x)) c.from_be_bytes.ensures ∙ taken_is w in
     let eight : length c.args.bytes ≡ 8 = search rules in
     let proper : AllBytes c.args.bytes = all-bytes c.args.bytes (λ k. search rules) in
     ap₂ bit_xor c.entry-5.ensures
@@ -21,6 +21,6 @@ returns c =
     (ap₂ bit_xor c.entry-8.ensures
     (ap₂ bit_xor c.entry.ensures
     (ap₂ bit_xor c.entry-2.ensures (ap₂ bit_xor c.entry-3.ensures c.entry-4.ensures))))))
-    ∙ sym (crc_by_tables c.to-be-bytes.result (ap length parts))
+    ∙ sym (crc_by_tables c.to_be_bytes.result (ap length parts))
     ∙ ap crc parts
     ∙ sym (more-word c.args.register c.args.bytes (omega (arith, c.ranges.register)) proper eight)

@@ -7,7 +7,7 @@ use Rattle.crc.proofs.after_rest.Goals as goal
 pub loop-byte-preserved : goal.loop-byte-preserved
 unfolding crc_more
 loop-byte-preserved c =
-    ap (λ r. crc_more r (drop (c.loop-byte.byte-index + 1) c.args.rest.now)) c.after-byte-register.ensures
+    ap (λ r. crc_more r (drop (c.loop-byte.byte-index + 1) c.args.rest.now)) c.after_byte-register.ensures
     ∙ sym (at_drop_more (crc_more c.loop-byte.register) c.args.rest.now c.loop-byte.byte-index 0
     c.loop-byte-test.true)
     ∙ c.loop-byte.invariant

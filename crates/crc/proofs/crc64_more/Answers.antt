@@ -7,5 +7,5 @@ use Rattle.crc.proofs.crc64_more.Goals as goal
 
 pub loop-rest-preserved : goal.loop-rest-preserved
 loop-rest-preserved c =
-    ap₂ crc_more c.after-eight-register.ensures (take_rest c.loop-rest.rest.now 8)
+    ap₂ crc_more c.after_eight-register.ensures (take_rest c.loop-rest.rest.now 8)
     ∙ more_front c.loop-rest.register c.loop-rest.rest.now (omega (arith, ltb-false)) ∙ c.loop-rest.invariant
