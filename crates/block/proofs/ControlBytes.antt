@@ -1,6 +1,6 @@
 -- The bytes of the control fields, group by group. Assumes nothing.
-use Rattle.std.proofs.Common.{◌≡◌, ℕ, ◌/◌, ◌%◌, ◌<◌, List, [], ◌∷◌, ◌++◌, drop, sym, refl, ap, ◌∙◌, ap₂}
-use Rattle.bits.specs.Fields.{join, bytes, encode, bit}
+use Rattle.std.proofs.Common.{◌≡◌, ℕ, ◌/◌, ◌%◌, ◌<◌, [], ◌∷◌, ◌++◌, drop, sym, refl, ap, ◌∙◌}
+use Rattle.bits.specs.Fields.{join, bytes, bit}
 use Rattle.block.specs.Control.{widths1, fields1, bytes1, widths2, fields2, bytes2}
 use Rattle.block.specs.declared.control.Control1.{Control1}
 use Rattle.block.specs.declared.control.Control2.{Control2}

@@ -1,6 +1,6 @@
 -- The control fields, as fields of bits, go into bytes and come out again. Assumes nothing.
-use Rattle.std.proofs.Common.{◌≡◌, ℕ, zero, suc, ◌*◌, ◌/◌, ◌%◌, ◌^◌, ◌<◌, Bool, true, false, eqb, List, [], ◌∷◌, length, get_or, take, drop, sym, refl, ap, ◌∙◌, le_of_suc-le-suc, not-suc-le-zero, mod-lt, lit<}
-use Rattle.bits.specs.Fields.{bit, decode, encode, value, split, join, AllBytes}
+use Rattle.std.proofs.Common.{◌≡◌, ℕ, ◌*◌, ◌/◌, ◌^◌, [], ◌∷◌, length, get_or, take, drop, sym, refl, ap, ◌∙◌, mod-lt, lit<}
+use Rattle.bits.specs.Fields.{encode, value, split, join, AllBytes}
 use Rattle.block.specs.Control.{
   widths1,
   fields1,

@@ -1,9 +1,7 @@
 -- The fields that the bytes of a control field hold, group by group. Assumes nothing.
-use Rattle.std.proofs.Common.{◌≡◌, ℕ, ◌+◌, ◌-◌, ◌*◌, ◌/◌, ◌%◌, ◌^◌, ◌<◌, ◌≤◌, eqb, List, [], ◌∷◌, ◌++◌, length, take, drop, sym, refl, ap, ◌∙◌, ap₂, div-one, arith, length-drop, length-take}
+use Rattle.std.proofs.Common.{◌≡◌, ℕ, ◌+◌, ◌-◌, ◌*◌, ◌/◌, ◌%◌, ◌^◌, ◌<◌, ◌≤◌, eqb, List, [], ◌∷◌, ◌++◌, length, take, drop, sym, refl, ap, ◌∙◌, div-one, arith, length-drop, length-take}
 use Rattle.bits.specs.Fields.{split, value, decode}
 use Rattle.block.specs.Control.{widths1, from_fields1, control1_of, widths2, from_fields2, control2_of}
-use Rattle.block.specs.declared.control.Control1.{Control1}
-use Rattle.block.specs.declared.control.Control2.{Control2}
 use Rattle.bits.proofs.Groups.{degroup, degroup_last}
 use Rattle.bits.proofs.Digits.{decode_one}
 

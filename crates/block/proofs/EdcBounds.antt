@@ -1,5 +1,5 @@
 -- The EDC of bytes has 16 bits. Assumes nothing.
-use Rattle.std.proofs.Common.{◌≡◌, ℕ, ◌+◌, ◌*◌, ◌<◌, List, [], ◌∷◌, arith, lit<}
+use Rattle.std.proofs.Common.{ℕ, ◌+◌, ◌*◌, ◌<◌, List, [], ◌∷◌, arith, lit<}
 use lib.Bits.{bit_xor, xor_lt}
 use Rattle.bits.specs.Fields.{AllBytes}
 use Rattle.block.specs.Edc.{words, turned, edc_words, edc}

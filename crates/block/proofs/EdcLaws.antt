@@ -1,8 +1,8 @@
 -- The EDC, one word of a loop more. Assumes nothing.
-use Rattle.std.proofs.Common.{◌≡◌, ℕ, suc, ◌+◌, ◌-◌, ◌*◌, ◌/◌, ◌%◌, ◌^◌, ◌<◌, ◌≤◌, List, [], ◌∷◌, length, get_or, drop, sym, refl, ap, ◌∙◌, add-zero, arith}
+use Rattle.std.proofs.Common.{◌≡◌, ℕ, ◌+◌, ◌-◌, ◌*◌, ◌/◌, ◌%◌, ◌<◌, ◌≤◌, List, ◌∷◌, length, get_or, drop, sym, ap, ◌∙◌, add-zero, arith}
 use lib.Bits.{bit_xor, bit_or, or_shifted}
 use Rattle.std.proofs.lemmas.List.{drop_more, drop_all}
-use Rattle.block.specs.Edc.{words, turned, edc_words, edc}
+use Rattle.block.specs.Edc.{words, turned, edc_words}
 
 -- rotating left by one is doubling, with the high bit moved to the low end
 pub rotated : (w : ℕ) → w < 65536 → bit_or (w * 2 % 65536) (w / 32768) ≡ turned w

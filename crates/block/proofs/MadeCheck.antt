@@ -1,12 +1,12 @@
 -- A check block is sound and gives back its words and what it keeps of the control fields. Assumes nothing.
-use Rattle.std.proofs.Common.{◌≡◌, ℕ, ◌+◌, ◌-◌, ◌*◌, ◌%◌, ◌^◌, ◌<◌, ◌≤◌, Bool, true, List, [], ◌∷◌, ◌++◌, length, get_or, take, drop, sym, refl, ap, ◌∙◌, subst, ap₂, mod-eq_of_lt, arith, length-append, length-drop}
-use Rattle.std.proofs.lemmas.List.{take_at, drop_at, append_assoc, take-append-le, drop-append-le}
+use Rattle.std.proofs.Common.{◌≡◌, ℕ, ◌+◌, ◌-◌, ◌%◌, ◌^◌, ◌≤◌, true, List, [], ◌∷◌, ◌++◌, length, take, drop, sym, refl, ap, ◌∙◌, subst, ap₂, mod-eq_of_lt, arith, length-append, length-drop}
+use Rattle.std.proofs.lemmas.List.{take_at, drop_at, append_assoc, drop-append-le}
 use Rattle.bits.specs.Fields.{AllBytes, decode, encode, bit}
 use Rattle.bits.proofs.BitLaws.{decode_narrows}
 use Rattle.bits.proofs.Groups.{group, decode-append}
 use Rattle.block.specs.Control.{widths1, fields1, from_fields1, bytes1, control1_of, bytes2, control2_of}
 use Rattle.block.specs.Made.{check_control}
-use Rattle.block.specs.Block.{sealed, check_block, control1_at, control2_at, crc_agrees, edc_agrees, sound_kind}
+use Rattle.block.specs.Block.{sealed, check_block, control1_at, crc_agrees, edc_agrees, sound_kind}
 use Rattle.block.specs.Laws.{CheckMade, CheckBlocksMade}
 use Rattle.block.specs.declared.control.Control1.{Control1}
 use Rattle.block.specs.declared.control.Control2.{Control2}

@@ -1,19 +1,19 @@
 -- A block made of a Data Field and two control fields is sound and gives all three back. Assumes nothing.
-use Rattle.std.proofs.Common.{◌≡◌, ℕ, zero, suc, ◌+◌, ◌*◌, ◌/◌, ◌%◌, ◌<◌, ◌≤◌, Bool, true, ◌&&◌, ◌||◌, List, [], ◌∷◌, ◌++◌, length, get_or, take, drop, sym, refl, ap, ◌∙◌, subst, ap₂, mod-lt, arith, lit<, length-append, eq-eqb}
+use Rattle.std.proofs.Common.{◌≡◌, ℕ, zero, suc, ◌+◌, ◌*◌, ◌/◌, ◌%◌, ◌<◌, true, List, [], ◌∷◌, ◌++◌, length, get_or, take, drop, sym, refl, ap, ◌∙◌, subst, ap₂, mod-lt, arith, lit<, length-append, eq-eqb}
 use lib.ListN.{length-replicate}
 use Rattle.std.proofs.lemmas.List.{take_at, drop_at, append_assoc, get_or-drop, get_or-take}
-use Rattle.bits.specs.Fields.{AllBytes, Within}
-use Rattle.bits.proofs.BitLaws.{bytes_all, decode_narrows}
-use Rattle.block.specs.Control.{widths1, fields1, from_fields1, bytes1, control1_of, widths2, fields2, bytes2, control2_of}
+use Rattle.bits.specs.Fields.{AllBytes}
+use Rattle.bits.proofs.BitLaws.{decode_narrows}
+use Rattle.block.specs.Control.{widths1, fields1, from_fields1, bytes1, control1_of, bytes2, control2_of}
 use Rattle.block.specs.Edc.{edc}
-use Rattle.block.specs.Block.{zeros, word_bytes, sealed, field_block, data_field, control1_at, control2_at, crc_agrees, edc_agrees, sound_kind, sound}
+use Rattle.block.specs.Block.{zeros, word_bytes, sealed, field_block, data_field, control1_at, crc_agrees, edc_agrees, sound_kind}
 use Rattle.block.specs.Made.{data_control, end_control, end_place}
 use Rattle.block.specs.Laws.{Made, DataBlocksMade, EndBlocksMade}
 use Rattle.block.specs.declared.control.Control1.{Control1}
 use Rattle.block.specs.declared.control.Control2.{Control2}
 use Rattle.block.proofs.ControlLaws.{control1_decodes, control2_decodes, length-bytes1, length-bytes2, bytes2-whole, bytes1-proper, bytes2-proper}
 use Rattle.block.proofs.EdcBounds.{edc-lt}
-use Rattle.block.proofs.Sealed.{all_append, sealed-long, sealed-proper, sealed_front, sealed-agrees, sealed-part}
+use Rattle.block.proofs.Sealed.{all_append, sealed-long, sealed-proper, sealed-agrees, sealed-part}
 use Rattle.block.proofs.SoundLaws.{sound_by}
 
 word_sum : (w : ℕ) → w < 65536 → w ≡ w % 256 + w / 256 % 256 * 256

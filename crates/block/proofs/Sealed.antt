@@ -1,8 +1,8 @@
 -- A body with its CRC behind it: the CRC agrees, and the body stands where it stood. Assumes nothing.
-use Rattle.std.proofs.Common.{◌≡◌, ℕ, zero, suc, ◌+◌, ◌^◌, ◌<◌, ◌≤◌, Bool, true, List, [], ◌∷◌, ◌++◌, length, take, drop, sym, refl, ap, ◌∙◌, subst, ap₂, mod-eq_of_lt, arith, length-append, length-drop, eq-eqb}
-use Rattle.std.proofs.lemmas.List.{take_at, drop_at, take_all, take-append-le, drop-append-le}
+use Rattle.std.proofs.Common.{◌≡◌, ℕ, zero, suc, ◌+◌, ◌≤◌, true, List, [], ◌∷◌, ◌++◌, length, take, drop, sym, ap, ◌∙◌, mod-eq_of_lt, arith, length-append, length-drop, eq-eqb}
+use Rattle.std.proofs.lemmas.List.{take_at, drop_at, take-append-le, drop-append-le}
 use Rattle.bits.specs.Fields.{bytes, value, AllBytes}
-use Rattle.bits.proofs.BitLaws.{length-bytes, value-bytes, bytes_all}
+use Rattle.bits.proofs.BitLaws.{value-bytes, bytes_all}
 use Rattle.crc.specs.Crc.{crc}
 use Rattle.crc.proofs.Linear.{crc-lt}
 use Rattle.block.specs.Block.{sealed, crc_agrees}

@@ -1,5 +1,5 @@
 -- Soundness by its parts. Assumes nothing.
-use Rattle.std.proofs.Common.{◌≡◌, ℕ, Bool, true, false, ◌&&◌, List, sym, refl, ap, ◌∙◌}
+use Rattle.std.proofs.Common.{◌≡◌, ℕ, Bool, false, ◌&&◌, List, ap, ◌∙◌}
 use Rattle.block.specs.Block.{control1_at, crc_agrees, edc_agrees, sound_kind, sound}
 
 pub sound_by : (b : List ℕ) (crc kind : Bool) → crc ≡ crc_agrees b → kind ≡ sound_kind (control1_at b).kind (edc_agrees b)

@@ -4,4 +4,4 @@ use Rattle.block.proofs.EdcLaws.{rotated}
 use Rattle.block.proofs.edc.turn.Goals as goal
 
 pub returns : goal.returns
-returns c = c.rotate-left.ensures ∙ rotated c.args.word (omega arith)
+returns c = c.rotate_left.ensures ∙ rotated c.args.word (omega arith)

@@ -1,5 +1,5 @@
 -- Eight bytes and one more. Assumes nothing.
-use Rattle.std.proofs.Common.{◌≡◌, ℕ, ◌+◌, ◌<◌, ◌≤◌, get_or, arith, rules}
+use Rattle.std.proofs.Common.{ℕ, ◌+◌, ◌<◌, get_or, arith, rules}
 use Rattle.bits.proofs.Numbers.{value-nine}
 use Rattle.block.proofs.number.nine.Goals as goal
 
@@ -11,5 +11,5 @@ returns c =
     let b = c.from-2.ensures in
     record {
       is = omega (arith, v, a, b, c.eight.ensures);
-      small = omega (arith, a, b, c.eight.type-inv, small (c.args.at + 8));
+      small = omega (arith, a, b, c.eight.type_inv, small (c.args.at + 8));
     }

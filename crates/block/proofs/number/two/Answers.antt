@@ -6,4 +6,4 @@ use Rattle.block.proofs.number.two.Goals as goal
 pub returns : goal.returns
 returns c =
     let small : (q : ℕ) → get_or c.args.bytes.now q 0 < 256 = λ q. search rules in
-    c.from-be-bytes.ensures ∙ sym (value_two c.args.bytes.now c.args.at small c.requires)
+    c.from_be_bytes.ensures ∙ sym (value_two c.args.bytes.now c.args.at small c.requires)

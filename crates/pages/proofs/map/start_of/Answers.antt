@@ -11,7 +11,7 @@ loop-i-init c = (refl, lit≤ tt)
 
 pub loop-i-preserved : goal.loop-i-preserved
 loop-i-preserved c = (
-  ap₂ ◌+◌ c.loop-i.invariant.0 (c.from-start.ensures ∙ ap (λ (e : Entry). e.count) c.entry-in.ensures)
+  ap₂ ◌+◌ c.loop-i.invariant.0 (c.from-start.ensures ∙ ap (λ (e : Entry). e.count) c.entry_in.ensures)
       ∙ sym (start_more c.args.field.now c.loop-i.i),
   search rules,
 )

@@ -5,5 +5,5 @@ use Rattle.pages.proofs.page.page_at.Goals as goal
 
 pub returns : goal.returns
 returns c =
-    c.page-in.ensures
-    ∙ sym (page_answer_lem c.args.block.now c.args.number (long_enough c.args.block.now c.in-ok-check-length.ensures))
+    c.page_in.ensures
+    ∙ sym (page_answer_lem c.args.block.now c.args.number (long_enough c.args.block.now c.in-ok-check_length.ensures))

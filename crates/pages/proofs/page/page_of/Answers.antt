@@ -5,18 +5,18 @@ use Rattle.pages.specs.declared.entry.Entry.{Entry}
 use Rattle.pages.proofs.MapRule.{map-few, page_within}
 use Rattle.pages.proofs.page.page_of.Goals as goal
 
-pub start-of-place-requires : goal.start-of-place-requires
-start-of-place-requires c =
+pub start_of-place-requires : goal.start_of-place-requires
+start_of-place-requires c =
     record { size = c.requires.size; few = omega (arith, map-few c.args.field.now c.args.pages c.requires.map) }
 
-pub entry-in-requires : goal.entry-in-requires
-entry-in-requires c =
+pub entry_in-requires : goal.entry_in-requires
+entry_in-requires c =
     record { size = c.requires.size; within = omega (arith, map-few c.args.field.now c.args.pages c.requires.map) }
 
 pub cut-requires : goal.cut-requires
 cut-requires c =
     let k : ℕ = c.args.number - 1 in
     let h : k < c.args.pages = omega arith in
-    let e : c.start-of-place.result + c.entry-in.result.count ≡ page_start c.args.field.now k + (entry_at c.args.field.now k).count =
-    ap₂ ◌+◌ c.start-of-place.ensures (ap (λ (x : Entry). x.count) c.entry-in.ensures) in
+    let e : c.start_of-place.result + c.entry_in.result.count ≡ page_start c.args.field.now k + (entry_at c.args.field.now k).count =
+    ap₂ ◌+◌ c.start_of-place.ensures (ap (λ (x : Entry). x.count) c.entry_in.ensures) in
     omega (arith, e, page_within c.args.field.now c.args.pages k c.requires.map h, c.requires.size)

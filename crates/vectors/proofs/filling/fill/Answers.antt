@@ -7,4 +7,4 @@ loop-place-preserved c =
     below_more _ _
     (λ k h. let other : k ≢ c.loop-place.place = omega arith in rw get_or-set_other (c.loop-place.invariant k h))
     (let inside : c.loop-place.place < length c.loop-place.bytes = omega arith in
-    rw get_or-set_same c.byte-at.ensures)
+    rw get_or-set_same c.byte_at.ensures)

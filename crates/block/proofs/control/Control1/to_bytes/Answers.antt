@@ -5,13 +5,13 @@ use Rattle.block.proofs.control.Control1.to_bytes.Goals as goal
 
 pub returns : goal.returns
 returns c =
-    let all = bytes1_are c.args.self c.head.result c.kind-byte-kind.result c.head.ensures c.kind-byte-kind.ensures
-    c.kind-byte-kind.type-inv (omega arith) c.file-marks.result c.file-marks.ensures in
+    let all = bytes1_are c.args.self c.head.result c.kind_byte-kind.result c.head.ensures c.kind_byte-kind.ensures
+    c.kind_byte-kind.type_inv (omega arith) c.file_marks.result c.file_marks.ensures in
     simp (
-      c.to-be-bytes.ensures,
-      c.to-be-bytes-2.ensures,
-      c.to-be-bytes-3.ensures,
-      c.to-be-bytes-4.ensures,
-      c.to-be-bytes-5.ensures,
-      c.to-be-bytes-6.ensures,
+      c.to_be_bytes.ensures,
+      c.to_be_bytes-2.ensures,
+      c.to_be_bytes-3.ensures,
+      c.to_be_bytes-4.ensures,
+      c.to_be_bytes-5.ensures,
+      c.to_be_bytes-6.ensures,
     ) (sym all)

@@ -1,5 +1,5 @@
 -- The groups of bytes hold the fields. Assumes nothing.
-use Rattle.std.proofs.Common.{◌≡◌, ℕ, ◌<◌, length, get_or, sym, ap, ◌∙◌, arith, rules}
+use Rattle.std.proofs.Common.{ℕ, ◌<◌, get_or, sym, arith, rules}
 use Rattle.bits.proofs.Numbers.{value_one}
 use Rattle.block.proofs.ControlRead.{control2_is}
 use Rattle.block.proofs.control.Control2.read.Goals as goal

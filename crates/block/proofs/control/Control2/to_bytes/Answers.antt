@@ -5,6 +5,6 @@ use Rattle.block.proofs.control.Control2.to_bytes.Goals as goal
 
 pub returns : goal.returns
 returns c =
-    let all = bytes2_are c.args.self c.head.result c.track-byte-track.result c.head.ensures c.track-byte-track.ensures
-    c.track-byte-track.type-inv (omega arith) in
-    simp (c.to-be-bytes.ensures, c.to-be-bytes-2.ensures, c.to-be-bytes-3.ensures) (sym all)
+    let all = bytes2_are c.args.self c.head.result c.track_byte-track.result c.head.ensures c.track_byte-track.ensures
+    c.track_byte-track.type_inv (omega arith) in
+    simp (c.to_be_bytes.ensures, c.to_be_bytes-2.ensures, c.to_be_bytes-3.ensures) (sym all)

@@ -6,4 +6,4 @@ use Rattle.pages.proofs.entry.Entry.to_bytes.Goals as goal
 pub returns : goal.returns
 returns c =
     let all = entry_bytes_are c.args.self c.flags.result c.flags.ensures in
-    simp (c.to-be-bytes.ensures, c.to-be-bytes-2.ensures, c.to-be-bytes-3.ensures) (sym all)
+    simp (c.to_be_bytes.ensures, c.to_be_bytes-2.ensures, c.to_be_bytes-3.ensures) (sym all)
