@@ -1,5 +1,5 @@
 -- A MAP entry goes into its eight bytes and comes out again. Assumes nothing.
-use Rattle.std.proofs.Common.{◌≡◌, ℕ, ◌+◌, ◌-◌, ◌*◌, ◌/◌, ◌%◌, ◌^◌, ◌<◌, Bool, eqb, List, [], ◌∷◌, ◌++◌, length, get_or, take, drop, sym, refl, ap, ◌∙◌, ap₂, mod-lt, div-one, arith, lit<, length-drop, length-take}
+use Rattle.std.proofs.Common.{◌≡◌, ℕ, ◌+◌, ◌-◌, ◌*◌, ◌/◌, ◌%◌, ◌^◌, ◌<◌, eqb, List, [], ◌∷◌, ◌++◌, length, get_or, take, drop, sym, refl, ap, ◌∙◌, mod-lt, div-one, arith, lit<, length-drop, length-take}
 use Rattle.bits.specs.Fields.{join, split, bytes, value, encode, decode, bit}
 use Rattle.pages.specs.Entry.{entry_widths, entry_fields, from_entry_fields, entry_bytes, entry_of, EntryDecodes, EntryEncodes}
 use Rattle.pages.specs.declared.entry.Entry.{Entry}

@@ -1,5 +1,5 @@
 -- The map, one entry of a loop more. Assumes nothing.
-use Rattle.std.proofs.Common.{◌≡◌, ℕ, suc, ◌+◌, ◌-◌, ◌<◌, ◌≤◌, eqb, List, Some, None, Option, sym, refl, ap, ◌∙◌, ap₂, arith}
+use Rattle.std.proofs.Common.{◌≡◌, ℕ, suc, ◌+◌, ◌-◌, ◌<◌, ◌≤◌, eqb, List, Some, None, Option, sym, refl, ap, ◌∙◌, arith}
 use Rattle.pages.specs.Map.{entry_at, map_step, map_from, map_size, page_start}
 use Rattle.pages.specs.declared.map.Step.{Step}
 use Rattle.pages.specs.declared.map.Step.TheVariants.{Unlawful, Last, Next}

@@ -3,7 +3,7 @@ use Rattle.std.proofs.Common.{◌≡◌, ℕ, Bool, true, false, cond, eqb, List
 use Rattle.refusal.specs.Tells.{Answer}
 use Rattle.block.specs.Block.{data_field, length_answer}
 use Rattle.pages.specs.Map.{map_size}
-use Rattle.pages.specs.Page.{View, page_among, page_answer}
+use Rattle.pages.specs.Page.{page_among, page_answer}
 
 -- only a block's length is accepted
 pub long_enough : (b : List ℕ) → ◌≡◌ {A = Answer (Unit {0})} (Ok tt) (length_answer b tt) → length b ≡ 8256

@@ -1,5 +1,5 @@
 -- The blocks of a plan, followed entity after entity. Assumes nothing.
-use Rattle.std.proofs.Common.{◌≡◌, ℕ, zero, suc, ◌+◌, ◌-◌, ◌≤◌, Bool, true, false, List, [], ◌∷◌, ◌++◌, length, take, drop, sym, refl, ap, ◌∙◌, subst, append-nil, le_of_eq, le_refl, not-suc-le-zero, arith, length-append}
+use Rattle.std.proofs.Common.{◌≡◌, ℕ, zero, suc, ◌+◌, ◌≤◌, Bool, true, false, List, [], ◌∷◌, ◌++◌, length, take, drop, sym, refl, ap, ◌∙◌, subst, append-nil, le_of_eq, le_refl, not-suc-le-zero, arith, length-append}
 use mathlib.Core.Option.{none}
 use Rattle.std.proofs.lemmas.List.{take_at, drop_at, length-drop, take-append-drop}
 use Rattle.bits.specs.Fields.{sum}

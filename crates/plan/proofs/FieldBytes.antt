@@ -1,5 +1,5 @@
 -- The Data Fields of laid blocks are 8,208 bytes each. Assumes nothing.
-use Rattle.std.proofs.Common.{◌≡◌, ℕ, zero, suc, ◌+◌, ◌-◌, ◌<◌, ◌≤◌, true, List, [], ◌∷◌, ◌++◌, length, take, drop, arith, lit<, length-drop}
+use Rattle.std.proofs.Common.{◌≡◌, ℕ, zero, suc, ◌-◌, ◌≤◌, true, List, [], ◌∷◌, ◌++◌, length, take, drop, arith, lit<, length-drop}
 use Rattle.bits.specs.Fields.{sum, AllBytes}
 use Rattle.block.specs.Block.{zeros}
 use Rattle.pages.specs.declared.entry.Entry.{Entry}

@@ -1,5 +1,5 @@
 -- What is still to come while packing. Assumes nothing.
-use Rattle.std.proofs.Common.{◌≡◌, ℕ, suc, ◌+◌, ◌-◌, ◌≤◌, Bool, true, false, cond, not, T, ◌⊎◌, List, [], ◌∷◌, length, get_or, refl, inl, inr, zero-le, le_refl, arith}
+use Rattle.std.proofs.Common.{◌≡◌, ℕ, suc, ◌+◌, ◌≤◌, Bool, true, false, cond, not, T, ◌⊎◌, List, [], ◌∷◌, length, get_or, refl, inl, inr, zero-le, le_refl, arith}
 use Rattle.bits.specs.Fields.{sum}
 
 -- a test, and what it says

@@ -7,7 +7,7 @@
 --   follow_pages, follow_block the objects that end on some pages, in a block, and what is open behind them
 --   follow_blocks last o b fs the same over the Data Fields fs of blocks numbered from b; in an envelope's last entity
 --                            nothing may stay open
-use Rattle.std.specs.Prelude.{ℕ, suc, ◌+◌, ◌-◌, Bool, true, false, cond, ◌&&◌, List, [], ◌∷◌, ◌++◌, map, length, take, drop, Some, None, ◌==◌, nat_lt}
+use Rattle.std.specs.Prelude.{ℕ, suc, ◌-◌, Bool, true, false, cond, ◌&&◌, List, [], ◌∷◌, ◌++◌, map, length, take, drop, Some, None, ◌==◌, nat_lt}
 use Rattle.std.proofs.Math.Option.{Option, some, none}
 use Rattle.std.specs.List.{range_with_len}
 use Rattle.pages.specs.Map.{entry_at, is_data, map_size}

@@ -1,5 +1,5 @@
 -- Each entry ends the search or leaves fewer. Assumes nothing.
-use Rattle.std.proofs.Common.{◌≡◌, eqb, refl, ap, ◌∙◌, arith}
+use Rattle.std.proofs.Common.{eqb, refl, ap, ◌∙◌, arith}
 use Rattle.pages.specs.Map.{map_step, map_size}
 use Rattle.pages.specs.declared.entry.Entry.{Entry}
 use Rattle.pages.proofs.MapSteps.{map_unlawful, map_last, map_next, map_spent}

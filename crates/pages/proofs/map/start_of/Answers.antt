@@ -1,5 +1,5 @@
 -- A page more starts where the one before it ends. Assumes nothing.
-use Rattle.std.proofs.Common.{◌≡◌, ℕ, ◌+◌, ◌<◌, ◌≤◌, sym, refl, ap, ◌∙◌, ap₂, arith, lit≤, rules}
+use Rattle.std.proofs.Common.{◌+◌, sym, refl, ap, ◌∙◌, ap₂, lit≤, rules}
 use Rattle.pages.specs.Map.{page_start}
 use Rattle.pages.specs.declared.entry.Entry.{Entry}
 use Rattle.pages.proofs.MapSteps.{start_more}

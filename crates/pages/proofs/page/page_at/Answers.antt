@@ -6,4 +6,4 @@ use Rattle.pages.proofs.page.page_at.Goals as goal
 pub returns : goal.returns
 returns c =
     c.page_in.ensures
-    ∙ sym (page_answer_lem c.args.block.now c.args.number (long_enough c.args.block.now c.in-ok-check_length.ensures))
+    ∙ sym (page_answer_lem c.args.block.now c.args.number (long_enough c.args.block.now c.in_ok-check_length.ensures))

@@ -1,5 +1,5 @@
 -- A page that the map has lies in the Data Field. Assumes nothing.
-use Rattle.std.proofs.Common.{◌≡◌, ℕ, ◌+◌, ◌-◌, ◌<◌, ◌≤◌, sym, ap, ◌∙◌, subst, ap₂, arith}
+use Rattle.std.proofs.Common.{◌≡◌, ℕ, ◌+◌, ◌-◌, ◌<◌, ap, ap₂, arith}
 use Rattle.pages.specs.Map.{entry_at, page_start}
 use Rattle.pages.specs.declared.entry.Entry.{Entry}
 use Rattle.pages.proofs.MapRule.{map-few, page_within}

@@ -1,5 +1,5 @@
 -- The groups of bytes hold the entry. Assumes nothing.
-use Rattle.std.proofs.Common.{◌≡◌, ℕ, ◌<◌, get_or, sym, ◌∙◌, arith, rules}
+use Rattle.std.proofs.Common.{ℕ, ◌<◌, get_or, sym, ◌∙◌, arith, rules}
 use Rattle.bits.proofs.Numbers.{value_two, value_four}
 use Rattle.pages.proofs.EntryLaws.{entry_is}
 use Rattle.pages.proofs.entry.Entry.read.Goals as goal
