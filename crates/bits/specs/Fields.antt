@@ -10,7 +10,7 @@
 --   sized n bs x       x, if bs are n bytes
 --   Within ws vs       there are as many values as widths, and each fits its width
 --   narrow ws vs       the low bits of each value that its width keeps
---   AllBytes bs           each of bs is below 256
+--   AllBytes bs        each of bs is below 256
 use Rattle.std.specs.Prelude.{◌≡◌, ℕ, ◌+◌, ◌*◌, ◌/◌, ◌%◌, ◌^◌, ◌<◌, Bool, true, false, cond, List, [], ◌∷◌, length, replicate, Some, None, Option, ◌==◌}
 
 abbrev pub sum : List ℕ → ℕ

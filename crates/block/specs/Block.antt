@@ -1,14 +1,14 @@
 -- The block of 8,256 bytes: its layout, how the three kinds are made, and when it is sound. Assumes nothing.
 --
 --   data_field b              bytes 0 to 8,207
---   zeros n                  n zero bytes
+--   zeros n                   n zero bytes
 --   control1_at b             what Control Field 1 of b holds; control2_at b, Control Field 2
 --   word_bytes w              a two-byte word, low byte first
---   sealed body              8,248 bytes with their CRC behind them
+--   sealed body               8,248 bytes with their CRC behind them
 --   field_block field c1 c2   a block with a Data Field and its EDC
---   data_block, end_block      such a block of type data; the end block, whose Data Field is zeros
+--   data_block, end_block     such a block of type data; the end block, whose Data Field is zeros
 --   check_block words n k c2  a block of check words, of whose Control Field 1 only the last four bytes stand
---   sound b                  the CRC agrees, the type is known, and the EDC agrees where there is one
+--   sound b                   the CRC agrees, the type is known, and the EDC agrees where there is one
 --   length_answer b x         x, or the refusal of a buffer b that is no block long
 --   made_of b x               x in place of b, if b is a block long
 use Rattle.std.specs.Prelude.{ℕ, ◌+◌, ◌*◌, ◌/◌, ◌%◌, Bool, cond, ◌&&◌, ◌||◌, List, [], ◌∷◌, ◌++◌, length, take, drop, replicate, Ok, Err, ◌==◌, slice_index}

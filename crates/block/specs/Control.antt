@@ -3,7 +3,7 @@
 --   widths1, widths2          the widths of the fields, in order
 --   fields1 c, fields2 c      the fields of c, in the same order
 --   bytes1 c, bytes2 c        Control Field 1 in 20 bytes, Control Field 2 in 16
---   control1_of, control2_of    the fields that such bytes hold
+--   control1_of, control2_of  the fields that such bytes hold
 use Rattle.std.specs.Prelude.{◌≡◌, ℕ, List, [], ◌∷◌, length, ◌==◌, slice_index}
 use Rattle.bits.specs.Fields.{encode, decode, bit, Within, AllBytes}
 use Rattle.block.specs.declared.control.Control1.{Control1}

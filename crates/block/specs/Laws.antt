@@ -1,6 +1,6 @@
 -- What holds of every block that is made. Assumes nothing.
 --
---   Made b c1 c2     b is a sound block of 8,256 bytes; control fields within their widths stand in it
+--   Made b c1 c2          b is a sound block of 8,256 bytes; control fields within their widths stand in it
 --   DataBlocksMade        a data block is such a block and gives its Data Field back
 --   EndBlocksMade         so does an end block, whose Data Field is zeros
 --   CheckBlocksMade       a check block is sound and gives its covered bytes back, and what it keeps of Control Field 1

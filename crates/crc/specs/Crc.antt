@@ -1,12 +1,12 @@
 -- The CRC-64 that closes a DLT 5 block, bit by bit. Assumes nothing.
 --
---   polynomial     ECMA-182's polynomial of degree 64 without its highest term, high bit first
+--   polynomial      ECMA-182's polynomial of degree 64 without its highest term, high bit first
 --   crc_bit c       the 64-bit register c after one shift: leftwards by one place, and the polynomial
 --                  exclusive-ored in where the bit that left is ONE
 --   crc_bits n c    the register after n shifts
 --   crc_byte c b    the register after the byte b: into its top eight bits, then eight shifts
 --   crc_more c bs   the register after the bytes bs, the first one first
---   crc bs         the CRC of the bytes bs: the register starts at zero, and nothing is inverted
+--   crc bs          the CRC of the bytes bs: the register starts at zero, and nothing is inverted
 use Rattle.std.specs.Prelude.{ℕ, zero, suc, ◌*◌, ◌/◌, ◌%◌, ◌^◌, List, [], ◌∷◌, bit_xor}
 
 abbrev pub polynomial : ℕ

@@ -1,10 +1,10 @@
 -- What the CRC is good for, as laws over all bytes. Assumes nothing.
 --
---   xor_bytes xs ys           the bytes xs and ys exclusive-ored place by place
---   Goes_on                  the CRC of joined bytes goes on from the CRC of the first
---   ClosedGivesZero        bytes with their own CRC behind them have the CRC 0
+--   xor_bytes xs ys       the bytes xs and ys exclusive-ored place by place
+--   GoesOn                the CRC of joined bytes goes on from the CRC of the first
+--   ClosedGivesZero       bytes with their own CRC behind them have the CRC 0
 --   ZeroOnlyIfClosed      and with any other eight bytes behind them they have not
---   IsLinear                the CRC of an exclusive-or is the exclusive-or of the CRCs
+--   IsLinear              the CRC of an exclusive-or is the exclusive-or of the CRCs
 --   ShowsAChangedBurst    no change within eight neighbouring bytes leaves the CRC as it was
 --   ShowsAChangedByte     in particular no change of one byte
 use Rattle.std.specs.Prelude.{◌≡◌, ℕ, ◌<◌, ◌≤◌, List, [], ◌∷◌, ◌++◌, length, bit_xor, slice_index, slice_set}
@@ -16,8 +16,8 @@ xor_bytes [] ys = []
 xor_bytes (x ∷ xs) [] = []
 xor_bytes (x ∷ xs) (y ∷ ys) = bit_xor x y ∷ xor_bytes xs ys
 
-abbrev pub Goes_on : Type 0
-Goes_on = (xs ys : List ℕ) → crc (xs ++ ys) ≡ crc_more (crc xs) ys
+abbrev pub GoesOn : Type 0
+GoesOn = (xs ys : List ℕ) → crc (xs ++ ys) ≡ crc_more (crc xs) ys
 
 abbrev pub ClosedGivesZero : Type 0
 ClosedGivesZero = (bs : List ℕ) → crc (bs ++ bytes 8 (crc bs)) ≡ 0

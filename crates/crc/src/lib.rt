@@ -3,7 +3,7 @@
 
 ghost use Rattle.std.specs.Prelude.{◌≡◌, ◌<◌, ◌∷◌, replicate};
 ghost use Rattle.crc.specs.Crc.{crc, crc_byte, crc_more};
-ghost use Rattle.crc.specs.Laws.{Goes_on, ClosedGivesZero, ZeroOnlyIfClosed, IsLinear};
+ghost use Rattle.crc.specs.Laws.{GoesOn, ClosedGivesZero, ZeroOnlyIfClosed, IsLinear};
 ghost use Rattle.crc.specs.Laws.{ShowsAChangedBurst, ShowsAChangedByte};
 
 mod tables;
@@ -66,7 +66,7 @@ pub fn crc64(bytes: &[u8]) -> u64
 
 // Does nothing: its contract states the laws that make the CRC worth storing.
 pub fn crc64_is_lawful()
-    ensures parts { Goes_on }
+    ensures parts { GoesOn }
     ensures closed { ClosedGivesZero }
     ensures only { ZeroOnlyIfClosed }
     ensures linear { IsLinear }

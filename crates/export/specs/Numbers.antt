@@ -1,7 +1,7 @@
 -- Answers as the numbers that a C program gets. Assumes nothing.
 --
 --   refused_with a   0, or the number of the refusal
---   verdict a       1 for yes, 0 for no, 2 for a refusal
+--   verdict a        1 for yes, 0 for no, 2 for a refusal
 use Rattle.std.specs.Prelude.{ℕ, Bool, true, false, Ok, Err}
 use Rattle.refusal.specs.Tells.{Answer}
 

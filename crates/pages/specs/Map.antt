@@ -1,11 +1,11 @@
 -- The map of a Data Field: its entries from the back, when it is lawful, and where its pages start. Assumes nothing.
 --
---   entry_at field i        the i-th entry, from 0: the first page's stands in the last eight bytes, the next before it
---   lawful_entry first e    the entry e may stand in a map, as its first or not
---   map_step free first e   what e says of the map, where `free` bytes are free
---   map_size field          how many entries the map has, if it is lawful
---   page_start field k      where the page behind the first k starts
---   pages_and_entries field k   the bytes of the first k pages and their entries
+--   entry_at field i           the i-th entry, from 0: the first page's stands in the last eight bytes, the next before it
+--   lawful_entry first e       the entry e may stand in a map, as its first or not
+--   map_step free first e      what e says of the map, where `free` bytes are free
+--   map_size field             how many entries the map has, if it is lawful
+--   page_start field k         where the page behind the first k starts
+--   pages_and_entries field k  the bytes of the first k pages and their entries
 use Rattle.std.specs.Prelude.{◌≡◌, ℕ, zero, suc, ◌+◌, ◌-◌, ◌*◌, ◌<◌, ◌≤◌, Bool, true, cond, not, ◌&&◌, ◌||◌, List, take, drop, Some, None, Option, ◌==◌, nat_le}
 use Rattle.pages.specs.Entry.{entry_of}
 use Rattle.pages.specs.declared.entry.Entry.{Entry}

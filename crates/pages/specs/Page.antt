@@ -2,8 +2,8 @@
 --
 --   View               a page by its kind: the bytes and place of a Data page, the place and count of the others
 --   viewed r           the answer r, with its page by the bytes it borrows
---   page_is field k     the page behind the first k pages
---   page_answer b n     what the call answers of page n of the block b, pages counted from 1
+--   page_is field k    the page behind the first k pages
+--   page_answer b n    what the call answers of page n of the block b, pages counted from 1
 use Rattle.std.specs.Prelude.{ℕ, ◌-◌, cond, ◌&&◌, List, [], ◌∷◌, length, take, drop, Some, None, Ok, Err, Option, Result, ◌==◌, nat_le}
 use Rattle.refusal.specs.Tells.{Answer, tells}
 use Rattle.refusal.specs.declared.Refusal.{Refusal}

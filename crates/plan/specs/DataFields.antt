@@ -1,7 +1,7 @@
 -- The Data Field of a block's pages: pages from the front, their MAP entries from the back. Assumes nothing.
 --
 --   entry_for pg last     the MAP entry of the page pg, the last of its block or not
---   entries pgs          the bytes of the entries, the first page's last
+--   entries pgs           the bytes of the entries, the first page's last
 --   page_entries pgs      the entries, the first page's first
 --   user_count pg         the bytes of records on a page
 --   user_bytes pgs        the same on all pages of a block; all_user_bytes, of several blocks

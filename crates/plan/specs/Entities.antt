@@ -1,6 +1,6 @@
 -- The entities of a plan, and the places that a write needs. Assumes nothing.
 --
---   entities bs         the data blocks bs, 16 to an entity
+--   entities bs          the data blocks bs, 16 to an entity
 --   entity_places r es   the places of the entities es: d data blocks and r check blocks each
 --   places_needed r ls   the places of a write, its end group counted
 use Rattle.std.specs.Prelude.{ℕ, zero, suc, ◌+◌, List, [], ◌∷◌, length, take, drop}

@@ -1,8 +1,8 @@
 -- Following the pages of data blocks, read from the bytes of their Data Fields, to the objects they hold. Assumes nothing.
 --
 --   entries_of field          the entries of a lawful map
---   Open                     a record that goes on: its Record Byte Count and its bytes so far; or none
---   joins e total got        what a Data page says when `got` are its record's bytes up to its end, of `total` in all
+--   Open                      a record that goes on: its Record Byte Count and its bytes so far; or none
+--   joins e total got         what a Data page says when `got` are its record's bytes up to its end, of `total` in all
 --   page_step o e bs          what a page with the entry e and the bytes bs says where o is open
 --   follow_pages, follow_block the objects that end on some pages, in a block, and what is open behind them
 --   follow_blocks last o b fs the same over the Data Fields fs of blocks numbered from b; in an envelope's last entity

@@ -1,15 +1,14 @@
 -- What holds of every plan: following its pages, read back from their bytes, gives the objects back. Assumes nothing.
 --
---   Laid head free pgs        pages laid into `free` bytes, the first at the head of its block or not
---   MapReadsBack            the map of a laid block, read from its bytes, is the list of its pages' entries
---   Maps-made-lawful          every map that a plan makes is lawful, and leaves 0 to 16 bytes
+--   Laid head free pgs       pages laid into `free` bytes, the first at the head of its block or not
+--   MapReadsBack             the map of a laid block, read from its bytes, is the list of its pages' entries
 --   PlanLaid                 the blocks of a plan are laid, and hold the bytes of the objects
---   FollowingUndoesPacking  following all blocks of a plan gives the objects of the write
---   FollowingByEntity       the same entity by entity, an open record carried from one to the next
+--   FollowingUndoesPacking   following all blocks of a plan gives the objects of the write
+--   FollowingByEntity        the same entity by entity, an open record carried from one to the next
 --   FollowingCounts          as many objects end in the first blocks as their pages say
 --   EntitiesSized            an entity has 2 to 16 data blocks
 --   FieldsProper             the Data Fields of a plan are 8,208 bytes each
---   EndsAddUp               every object ends on one page
+--   EndsAddUp                every object ends on one page
 --   PageNumbers              a record lies on at most 129 blocks, and pages name objects of the write
 use Rattle.std.specs.Prelude.{◌≡◌, ℕ, ◌+◌, ◌-◌, ◌≤◌, Bool, true, false, T, List, [], ◌∷◌, ◌++◌, length, take, drop}
 use Rattle.std.proofs.Math.Option.{some, none}

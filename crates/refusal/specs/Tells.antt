@@ -1,9 +1,9 @@
 -- What a refusal tells: its number and its values. Assumes nothing.
 --
---   tells e      the number of the refusal e and its values, in order
+--   tells e       the number of the refusal e and its values, in order
 --   number_of e   its number
---   Answer T     a T, or the number and values of a refusal
---   told r       what a call answered, its refusal by number and values
+--   Answer T      a T, or the number and values of a refusal
+--   told r        what a call answered, its refusal by number and values
 --   and_then a f  the answer a if it is a refusal, else what f answers of its value
 use Rattle.std.specs.Prelude.{ℕ, List, [], ◌∷◌, Ok, Err, Result}
 use Rattle.refusal.specs.declared.Refusal.{Refusal}
