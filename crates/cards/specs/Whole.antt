@@ -1,13 +1,13 @@
 -- Every block that stands in a memory has 8,256 bytes, which a card owes as its member `whole`. Assumes nothing.
-use Rattle.std.specs.Prelude.{◌≡◌, ℕ, zero, suc, ◌+◌, ◌*◌, ◌/◌, ◌%◌, ◌<◌, ◌≤◌, List, [], map, length, get_or, take, drop, refl}
-use Rattle.std.proofs.Common.{arith, sym, ap, ◌∙◌, ⊎_elim}
+use Rattle.std.specs.Prelude.{◌≡◌, ℕ, zero, suc, ◌+◌, ◌*◌, ◌/◌, ◌%◌, ◌<◌, ◌≤◌, List, map, length, take, drop}
+use Rattle.std.proofs.Common.{arith, ap, ◌∙◌, ⊎_elim}
 use Rattle.std.specs.List.{range_with_len}
 use Rattle.std.proofs.lemmas.List.{length-take, length-drop, get_or_past, length-replicate}
 use Rattle.std.proofs.lemmas.List.FromFn.{length-map-range_with_len, get_or-map-range_with_len}
 use Rattle.std.proofs.lemmas.Bool.{cases_lt}
 use Rattle.cards.specs.declared.Kind.{Kind}
 use Rattle.cards.specs.declared.Kind.TheVariants.{Blank, Lost, Block}
-use Rattle.cards.specs.Content.{block_len, Content, blank, lost, block, content_at, bytes_of, Whole}
+use Rattle.cards.specs.Content.{block_len, Content, lost, bytes_of, Whole}
 use Rattle.cards.specs.Rows.{row_len, row_count, mark_kind, content_of, row_at, rows}
 use Rattle.cards.specs.Tracks.{memory_of, shortest, dealt_at, dealt}
 

@@ -5,8 +5,8 @@ use Rattle.cards.proofs.AnswerLaws.{judged_within, judged-length}
 use Rattle.skip.proofs.TableLaws.{length_list, length_left, found, found_get, found_buffer}
 use Rattle.skip.proofs.SkipCardCard.get.Goals as goal
 
-pub returns-in-err-judge-call : goal.returns-in-err-judge-call
-returns-in-err-judge-call g c =
+pub returns-in_err-judge_call : goal.returns-in_err-judge_call
+returns-in_err-judge_call g c =
     let t = length_list c.args.self.now.table c.args.self.now.count c.args.self.now.few
     c.args.self.now.size in
     let n = length_left c.args.self.now.table c.args.self.now.count

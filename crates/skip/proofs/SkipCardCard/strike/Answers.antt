@@ -7,8 +7,8 @@ use Rattle.skip.proofs.SkipLaws.{skipped-strike}
 use Rattle.skip.proofs.TableLaws.{length_list, length_left, found, found-strike, found-strike_below}
 use Rattle.skip.proofs.SkipCardCard.strike.Goals as goal
 
-pub returns-in-err-judge-place : goal.returns-in-err-judge-place
-returns-in-err-judge-place g c =
+pub returns-in_err-judge_place : goal.returns-in_err-judge_place
+returns-in_err-judge_place g c =
     let t = length_list c.args.self.now.table c.args.self.now.count c.args.self.now.few
     c.args.self.now.size in
     let n = length_left c.args.self.now.table c.args.self.now.count
