@@ -9,7 +9,8 @@ use Rattle.skip.proofs.SkipCard.new.Goals as goal
 pub invariant_of-result : goal.invariant_of-result
 invariant_of-result g c =
     let l = lawful_from_granted (length (g.C.Card.contents c.args.card)) c.args.list.now c.requires in
-    record { few = l.few; size = simp (length-append, length-drop) (omega arith) }
+    let few = l.few in
+    record { few = omega arith; size = simp (length-append, length-drop) (omega arith) }
 
 pub returns : goal.returns
 returns g c =
