@@ -1,5 +1,5 @@
 -- What a call's judgement tells: where it grants, and what it leaves either way. Assumes nothing.
-use Rattle.std.proofs.Common.{◌≡◌, ℕ, ◌<◌, List, length, set, Ok, Err, sym, refl, ap, ◌∙◌, arith, rules}
+use Rattle.std.proofs.Common.{◌≡◌, ℕ, ◌<◌, List, length, set, Ok, Err, refl, ap, arith}
 use Rattle.std.proofs.lemmas.Bool.Decides.{nat_tests}
 use Rattle.refusal.specs.Tells.{Answer, and_then}
 use Rattle.cards.specs.Content.{block_len, Content, block, lost, content_at, bytes_of}

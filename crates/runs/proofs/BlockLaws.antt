@@ -1,8 +1,8 @@
 -- Laws of blocks that stand joined. Assumes nothing.
-use Rattle.std.proofs.Common.{◌≡◌, ℕ, ◌+◌, ◌*◌, ◌<◌, ◌≤◌, List, length, get_or, arith}
+use Rattle.std.proofs.Common.{◌≡◌, ℕ, ◌*◌, ◌<◌, ◌≤◌, List, length, get_or, arith}
 use Rattle.std.proofs.lemmas.List.{length-take, length-drop}
 use Rattle.std.proofs.lemmas.List.FromFn.{length-map-range_with_len, get_or-map-range_with_len}
-use Rattle.cards.specs.Content.{block_len, Content, lost, block}
+use Rattle.cards.specs.Content.{block_len, lost, block}
 use Rattle.runs.specs.Runs.{block_at, blocks}
 
 pub length-blocks : (bytes : List ℕ) (n : ℕ) → length (blocks bytes n) ≡ n

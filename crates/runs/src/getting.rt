@@ -11,7 +11,7 @@ use refusal::Refusal;
 // Copies the block at a place of a run to a part of a work area, or zeros where none stands or the card ends.
 fn fetch<C: Card>(card: &C, start: usize, index: usize, part: &mut [u8])
     requires { length part.old ≡ 8256 }
-    ensures { part.new ≡ bytes_of (content_at (contents card.now) (start + index)) }
+    ensures { part.new ≡ bytes_of (content_at (C.contents card.now) (start + index)) }
 {
     if index < card.places().saturating_sub(start) {
         let _ = card.get(start + index, part);
@@ -23,7 +23,7 @@ fn fetch<C: Card>(card: &C, start: usize, index: usize, part: &mut [u8])
 // Fills a work area with the blocks at the places from the start on. A place that the card lacks gives zeros.
 pub fn get_run<C: Card>(card: &C, start: usize, work: &mut [u8]) -> Result<(), Refusal>
     ensures answer { told result ≡ judged_blocks (length work.old) }
-    ensures work { work.new ≡ run_buffer (contents card.now) start work.old }
+    ensures work { work.new ≡ run_buffer (C.contents card.now) start work.old }
 {
     judge_blocks(work.len())?;
     for i in 0..work.len() / BLOCK_LEN {

@@ -11,11 +11,11 @@ use refusal::Refusal;
 
 // Puts the same block at each place of a run that the card has.
 fn lay_copies<C: Card>(card: &mut C, start: usize, count: usize, body: &[u8])
-    requires room { start + count ≤ length (contents card.old) }
+    requires room { start + count ≤ length (C.contents card.old) }
     requires small { start + count < 2 ^ 64 }
     requires sized { length body.now ≡ 8256 }
-    ensures { contents card.new
-        ≡ laid (contents card.old) start (replicate count (block body.now)) }
+    ensures { C.contents card.new
+        ≡ laid (C.contents card.old) start (replicate count (block body.now)) }
 {
     for i in 0..count {
         let _ = card.put(start + i, body);
@@ -24,11 +24,11 @@ fn lay_copies<C: Card>(card: &mut C, start: usize, count: usize, body: &[u8])
 
 // Puts joined blocks at the places of a run that the card has, the first place first.
 fn lay_up<C: Card>(card: &mut C, start: usize, count: usize, bytes: &[u8])
-    requires room { start + count ≤ length (contents card.old) }
+    requires room { start + count ≤ length (C.contents card.old) }
     requires small { start + count < 2 ^ 64 }
     requires sized { count * 8256 ≤ length bytes.now }
-    ensures { contents card.new
-        ≡ laid (contents card.old) start (blocks bytes.now count) }
+    ensures { C.contents card.new
+        ≡ laid (C.contents card.old) start (blocks bytes.now count) }
 {
     for i in 0..count {
         let _ = card.put(start + i, block_of(bytes, i));
@@ -37,11 +37,11 @@ fn lay_up<C: Card>(card: &mut C, start: usize, count: usize, bytes: &[u8])
 
 // The same, the top place first.
 fn lay_down<C: Card>(card: &mut C, start: usize, count: usize, bytes: &[u8])
-    requires room { start + count ≤ length (contents card.old) }
+    requires room { start + count ≤ length (C.contents card.old) }
     requires small { start + count < 2 ^ 64 }
     requires sized { count * 8256 ≤ length bytes.now }
-    ensures { contents card.new
-        ≡ laid (contents card.old) start (blocks bytes.now count) }
+    ensures { C.contents card.new
+        ≡ laid (C.contents card.old) start (blocks bytes.now count) }
 {
     for i in (0..count).rev() {
         let _ = card.put(start + i, block_of(bytes, i));
@@ -55,10 +55,10 @@ pub fn put_copies<C: Card>(
     count: usize,
     body: &[u8],
 ) -> Result<(), Refusal>
-    ensures answer { told result ≡ copies_answer (length (contents card.old)) start count
+    ensures answer { told result ≡ copies_answer (length (C.contents card.old)) start count
         (length body.now) }
-    ensures card { contents card.new
-        ≡ copies_contents (contents card.old) start count body.now }
+    ensures card { C.contents card.new
+        ≡ copies_contents (C.contents card.old) start count body.now }
 {
     judge_block(body.len())?;
     judge_run(start, count, card.places())?;
@@ -68,10 +68,10 @@ pub fn put_copies<C: Card>(
 
 // Puts joined blocks at the places from the start on, or none of them.
 pub fn put_run<C: Card>(card: &mut C, start: usize, bytes: &[u8]) -> Result<(), Refusal>
-    ensures answer { told result ≡ run_answer (length (contents card.old)) start
+    ensures answer { told result ≡ run_answer (length (C.contents card.old)) start
         (length bytes.now) }
-    ensures card { contents card.new
-        ≡ run_contents (contents card.old) start bytes.now }
+    ensures card { C.contents card.new
+        ≡ run_contents (C.contents card.old) start bytes.now }
 {
     judge_blocks(bytes.len())?;
     let count = bytes.len() / BLOCK_LEN;
@@ -82,10 +82,10 @@ pub fn put_run<C: Card>(card: &mut C, start: usize, bytes: &[u8]) -> Result<(), 
 
 // The same, from the top place down.
 pub fn put_run_down<C: Card>(card: &mut C, start: usize, bytes: &[u8]) -> Result<(), Refusal>
-    ensures answer { told result ≡ run_answer (length (contents card.old)) start
+    ensures answer { told result ≡ run_answer (length (C.contents card.old)) start
         (length bytes.now) }
-    ensures card { contents card.new
-        ≡ run_contents (contents card.old) start bytes.now }
+    ensures card { C.contents card.new
+        ≡ run_contents (C.contents card.old) start bytes.now }
 {
     judge_blocks(bytes.len())?;
     let count = bytes.len() / BLOCK_LEN;

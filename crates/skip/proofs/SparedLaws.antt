@@ -1,12 +1,12 @@
 -- For a lawful list, moving up over the bad places finds exactly the unlisted ones, in order. Assumes nothing.
-use Rattle.std.proofs.Common.{◌≡◌, ℕ, zero, suc, ◌+◌, ◌-◌, ◌<◌, ◌≤◌, Bool, true, false, cond, ◌||◌, eqb, leb, List, [], ◌∷◌, map, length, get_or, sym, refl, ap, ◌∙◌, subst, ⊎_elim, arith}
+use Rattle.std.proofs.Common.{◌≡◌, ℕ, zero, suc, ◌+◌, ◌-◌, ◌<◌, ◌≤◌, false, cond, ◌||◌, eqb, leb, List, [], ◌∷◌, map, length, get_or, sym, refl, ap, ◌∙◌, subst, ⊎_elim, arith}
 use mathlib.Core.List.{map-map}
 use Rattle.std.specs.List.{range_with_len}
 use Rattle.std.proofs.lemmas.List.FromFn.{length-map-range_with_len}
 use Rattle.std.proofs.lemmas.Bool.{cases_lt, cond-true, cond-false, le-leb, lt-leb, eq-eqb, ne_eqb, or_from, or_left}
 use Rattle.cards.specs.Content.{Content, content_at}
 use Rattle.skip.specs.BadPlaces.{Lawful}
-use Rattle.skip.specs.Skipped.{listed, unlisted_from, spared, stepped_over, unlisted, skipped, SkipsTheListed}
+use Rattle.skip.specs.Skipped.{listed, unlisted_from, spared, unlisted, skipped, SkipsTheListed}
 
 -- a list that rises strictly, from lo on and below hi
 abbrev Rises : ℕ → ℕ → List ℕ → Type 0

@@ -1,19 +1,8 @@
 -- Laws of a skip card's calls, with the first entries of its table as the list. Assumes nothing.
-use Rattle.std.proofs.Common.{◌≡◌, ℕ, ◌+◌, ◌-◌, ◌<◌, ◌≤◌, List, length, take, set, Ok, sym, ap, ◌∙◌, arith}
+use Rattle.std.proofs.Common.{◌≡◌, ℕ, ◌-◌, ◌<◌, ◌≤◌, List, length, take, set, Ok, sym, ap, ◌∙◌, arith}
 use Rattle.std.proofs.lemmas.List.{length-take-le}
 use Rattle.cards.specs.Content.{Content, block, lost, content_at, bytes_of}
-use Rattle.cards.specs.Calls.{
-  kind_of,
-  judged,
-  judged_place,
-  if_granted,
-  get_answer,
-  get_buffer,
-  put_answer,
-  put_contents,
-  strike_answer,
-  strike_contents,
-}
+use Rattle.cards.specs.Calls.{kind_of, if_granted, get_answer, get_buffer, put_answer, put_contents, strike_answer, strike_contents}
 use Rattle.skip.specs.Skipped.{unlisted, skipped, put_below, strike_below}
 use Rattle.cards.proofs.AnswerLaws.{judged_ok, judged_place_ok, get_in, buffer_in, put_in, strike_in}
 use Rattle.skip.proofs.SkipLaws.{unlisted_bound, length-skipped, content_at-skipped}

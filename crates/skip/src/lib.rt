@@ -46,11 +46,11 @@ fn below(list: &[usize], place: usize) -> usize
 impl<C: Card> SkipCard<C> {
     // The card without the listed places. The list was judged before, so this cannot refuse.
     pub fn new(card: C, list: &[usize]) -> SkipCard<C>
-        requires { list_answer (length (contents card)) list.now ≡ Ok tt }
+        requires { list_answer (length (C.contents card)) list.now ≡ Ok tt }
         ensures card { result.card ≡ card }
         ensures list { take result.count result.table ≡ list.now }
-        ensures places { skipped (take result.count result.table) (contents result.card)
-            ≡ spared list.now (contents card) }
+        ensures places { skipped (take result.count result.table) (C.contents result.card)
+            ≡ spared list.now (C.contents card) }
     {
         let mut table = [0; 64];
         let count = list.len();
@@ -60,7 +60,7 @@ impl<C: Card> SkipCard<C> {
 
     // How many places are left.
     fn left(&self) -> usize
-        ensures count { result ≡ length (contents self.now.card) - self.now.count }
+        ensures count { result ≡ length (C.contents self.now.card) - self.now.count }
         ensures small { 0 < result → result + self.now.count < 2 ^ 64 }
     {
         self.card.places().saturating_sub(self.count)
@@ -86,14 +86,14 @@ impl<C: Card> Card for SkipCard<C> {
     fn put(&mut self, place: usize, block: &[u8]) -> Result<(), Refusal>
         ensures answer { told result ≡ put_answer
             (skipped (take self.old.count self.old.table)
-            (contents self.old.card)) place (length block.now) }
+            (C.contents self.old.card)) place (length block.now) }
         ensures card { skipped (take self.new.count self.new.table)
-            (contents self.new.card)
+            (C.contents self.new.card)
             ≡ put_contents (skipped (take self.old.count self.old.table)
-            (contents self.old.card)) place block.now }
-        ensures under { contents self.new.card
+            (C.contents self.old.card)) place block.now }
+        ensures under { C.contents self.new.card
             ≡ put_below (take self.old.count self.old.table)
-            (contents self.old.card) place block.now }
+            (C.contents self.old.card) place block.now }
         ensures list { take self.new.count self.new.table
             ≡ take self.old.count self.old.table }
     {
@@ -105,14 +105,14 @@ impl<C: Card> Card for SkipCard<C> {
     fn strike(&mut self, place: usize) -> Result<(), Refusal>
         ensures answer { told result ≡ strike_answer
             (skipped (take self.old.count self.old.table)
-            (contents self.old.card)) place }
+            (C.contents self.old.card)) place }
         ensures card { skipped (take self.new.count self.new.table)
-            (contents self.new.card)
+            (C.contents self.new.card)
             ≡ strike_contents (skipped (take self.old.count self.old.table)
-            (contents self.old.card)) place }
-        ensures under { contents self.new.card
+            (C.contents self.old.card)) place }
+        ensures under { C.contents self.new.card
             ≡ strike_below (take self.old.count self.old.table)
-            (contents self.old.card) place }
+            (C.contents self.old.card) place }
         ensures list { take self.new.count self.new.table
             ≡ take self.old.count self.old.table }
     {

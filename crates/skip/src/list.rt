@@ -34,7 +34,7 @@ fn judge_entries(list: &[usize], places: usize) -> Result<(), Refusal>
 
 // Judges the bad places of a card: a list that this grants makes a skip card.
 pub fn judge_list<C: Card>(card: &C, list: &[usize]) -> Result<(), Refusal>
-    ensures { told result ≡ list_answer (length (contents card.now)) list.now }
+    ensures { told result ≡ list_answer (length (C.contents card.now)) list.now }
 {
     judge_entries(list, card.places())
 }

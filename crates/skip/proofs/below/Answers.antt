@@ -8,8 +8,8 @@ use Rattle.skip.proofs.below.Goals as goal
 pub loop-bad-preserved : goal.loop-bad-preserved
 loop-bad-preserved c =
     let b = stepped_bound (get_or c.args.list.now c.loop-bad.bad-index 0) c.loop-bad.at in (
-      unlisted_more c.args.list.now c.loop-bad.bad-index c.loop-bad.at c.step-over-at.result 0
-          (omega arith) c.step-over-at.ensures
+      unlisted_more c.args.list.now c.loop-bad.bad-index c.loop-bad.at c.step_over-at.result 0
+          (omega arith) c.step_over-at.ensures
           ∙ c.loop-bad.invariant.0,
       omega arith,
     )

@@ -1,5 +1,5 @@
 -- A put or a strike changes its own place at most. Assumes nothing.
-use Rattle.std.proofs.Common.{◌≡◌, ℕ, List, length, set, Ok, Err, refl, ap, ◌∙◌}
+use Rattle.std.proofs.Common.{ℕ, List, length, set, Ok, Err, refl, ap, ◌∙◌}
 use Rattle.std.proofs.lemmas.List.{length-set, get_or-set_same, get_or-set_other}
 use Rattle.refusal.specs.Tells.{Answer}
 use Rattle.cards.specs.Content.{Content, block, lost, content_at}

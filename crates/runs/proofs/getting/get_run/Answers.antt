@@ -1,6 +1,5 @@
 -- Getting the places in turn fills the work area with their bytes. Assumes nothing.
-use Rattle.std.proofs.Common.{◌≡◌, ◌+◌, ◌-◌, ◌*◌, ◌/◌, ◌%◌, length, sym, ap, ◌∙◌, arith, rules}
-use Rattle.std.proofs.lemmas.Bool.Decides.{nat_tests}
+use Rattle.std.proofs.Common.{◌≡◌, ◌+◌, ◌-◌, ◌*◌, ◌/◌, ◌%◌, length, sym, ap, ◌∙◌, arith}
 use Rattle.cards.specs.Calls.{if_granted}
 use Rattle.runs.specs.Runs.{run_bytes}
 use Rattle.runs.proofs.GetLaws.{run_bytes-start, run_bytes-turn, run_bytes_all, blocks_granted}
@@ -19,15 +18,15 @@ loop-i-preserved g c =
 pub returns : goal.returns
 returns g c =
     let m : length c.args.work.now % 8256
-    ≡ 0 = blocks_granted (length c.args.work.now) (sym c.in-ok-judge-blocks.ensures) in
+    ≡ 0 = blocks_granted (length c.args.work.now) (sym c.in_ok-judge_blocks.ensures) in
     let e : c.loop-i.i ≡ length c.args.work.now / 8256 = omega arith in
     record {
-      answer = c.in-ok-judge-blocks.ensures;
+      answer = c.in_ok-judge_blocks.ensures;
       work =
           run_bytes_all (g.C.Card.contents c.args.card.now) c.args.start c.loop-i.i
           c.args.work.now c.loop-i.work (omega arith) c.loop-i.invariant
           ∙ ap (run_bytes (g.C.Card.contents c.args.card.now) c.args.start) e
           ∙ ap (λ a. if_granted a (run_bytes (g.C.Card.contents c.args.card.now) c.args.start
           (length c.args.work.now / 8256)) c.args.work.now)
-          c.in-ok-judge-blocks.ensures;
+          c.in_ok-judge_blocks.ensures;
     }

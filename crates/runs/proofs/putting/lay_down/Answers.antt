@@ -19,7 +19,7 @@ loop-i-preserved g c =
     (block_at c.args.bytes.now (c.loop-i.i - 1)) (omega arith) (omega arith)
     (length-blocks c.args.bytes.now c.args.count) c.requires.room c.loop-i.invariant
     (c.put.ensures.card ∙ ap (put_contents (g.C.Card.contents c.loop-i.card)
-    (c.args.start + (c.loop-i.i - 1))) c.block-of.ensures)
+    (c.args.start + (c.loop-i.i - 1))) c.block_of.ensures)
     (length-block_at c.args.bytes.now c.args.count (c.loop-i.i - 1) (omega arith) c.requires.sized)
     (get_or-blocks c.args.bytes.now c.args.count (c.loop-i.i - 1) (omega arith))
 

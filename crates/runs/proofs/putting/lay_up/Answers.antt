@@ -19,7 +19,7 @@ loop-i-preserved g c =
     c.args.start c.loop-i.i _ _
     (block_at c.args.bytes.now c.loop-i.i) c.loop-i.invariant
     (c.put.ensures.card ∙ ap (put_contents (g.C.Card.contents c.loop-i.card)
-    (c.args.start + c.loop-i.i)) c.block-of.ensures)
+    (c.args.start + c.loop-i.i)) c.block_of.ensures)
     (omega arith) (omega arith) (get_or-blocks c.args.bytes.now c.args.count c.loop-i.i (omega arith))
     (length-block_at c.args.bytes.now c.args.count c.loop-i.i (omega arith) c.requires.sized)
 

@@ -6,16 +6,17 @@ use Rattle.skip.proofs.ListLaws.{lawful_from_granted}
 use Rattle.skip.proofs.SparedLaws.{skipped_is_spared}
 use Rattle.skip.proofs.SkipCard.new.Goals as goal
 
-pub invariant-of-result : goal.invariant-of-result
-invariant-of-result g c =
+pub invariant_of-result : goal.invariant_of-result
+invariant_of-result g c =
     let l = lawful_from_granted (length (g.C.Card.contents c.args.card)) c.args.list.now c.requires in
-    (l.few, simp (length-append, length-drop) (omega arith))
+    let few = l.few in
+    record { few = omega arith; size = simp (length-append, length-drop) (omega arith) }
 
 pub returns : goal.returns
 returns g c =
     let l = lawful_from_granted (length (g.C.Card.contents c.args.card)) c.args.list.now c.requires in
-    let t = take_at c.copy-from-slice.new.self _ (length c.args.list.now) (omega arith)
-    ∙ c.copy-from-slice.ensures.after in
+    let t = take_at c.copy_from_slice.new.self _ (length c.args.list.now) (omega arith)
+    ∙ c.copy_from_slice.ensures.after in
     record {
       card = refl;
       list = t;

@@ -1,14 +1,14 @@
 -- What a put of a skip card leaves at its places and below. Assumes nothing.
-use Rattle.std.proofs.Common.{◌≡◌, ◌-◌, ◌<◌, length, take, sym, refl, ap, ◌∙◌, arith, rules}
+use Rattle.std.proofs.Common.{◌-◌, ◌<◌, length, take, sym, refl, ap, ◌∙◌, arith, rules}
 use Rattle.std.proofs.lemmas.List.{length-take-le}
-use Rattle.skip.specs.Skipped.{skipped, put_below}
+use Rattle.skip.specs.Skipped.{skipped}
 use Rattle.cards.proofs.AnswerLaws.{judged_within, judged-length}
 use Rattle.skip.proofs.SkipLaws.{skipped-put}
 use Rattle.skip.proofs.TableLaws.{length_list, length_left, found, found-put, found-put_below}
 use Rattle.skip.proofs.SkipCardCard.put.Goals as goal
 
-pub returns-in-err-judge-call : goal.returns-in-err-judge-call
-returns-in-err-judge-call g c =
+pub returns-in_err-judge_call : goal.returns-in_err-judge_call
+returns-in_err-judge_call g c =
     let t = length_list c.args.self.now.table c.args.self.now.count c.args.self.now.few
     c.args.self.now.size in
     let n = length_left c.args.self.now.table c.args.self.now.count
@@ -18,7 +18,7 @@ returns-in-err-judge-call g c =
 pub below-at-requires : goal.below-at-requires
 below-at-requires g c =
     let h : c.args.place < c.left.result = judged_within (length c.args.block.now) c.left.result
-    c.args.place (sym c.in-ok-judge-call.ensures) in
+    c.args.place (sym c.in_ok-judge_call.ensures) in
     let s = c.left.ensures.small (omega arith) in
     let t = length-take-le (c.args.self.now.count - 0) c.args.self.now.table (omega arith) in
     omega arith
@@ -29,9 +29,9 @@ returns g c =
     (g.C.Card.contents c.args.self.now.card) c.left.result c.args.place c.below-at.result
     c.args.self.now.few c.args.self.now.size
     (judged_within (length c.args.block.now) c.left.result c.args.place
-    (sym c.in-ok-judge-call.ensures)) c.left.ensures.count c.below-at.ensures in
+    (sym c.in_ok-judge_call.ensures)) c.left.ensures.count c.below-at.ensures in
     let e = judged-length (length c.args.block.now) c.left.result c.args.place
-    (sym c.in-ok-judge-call.ensures) in
+    (sym c.in_ok-judge_call.ensures) in
     let u = c.put.ensures.card ∙ found-put_below (take c.args.self.now.count c.args.self.now.table)
     (g.C.Card.contents c.args.self.now.card) c.args.place c.below-at.result f
     c.args.block.now e in

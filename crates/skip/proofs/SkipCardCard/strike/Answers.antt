@@ -1,14 +1,14 @@
 -- What a strike of a skip card leaves at its places and below. Assumes nothing.
-use Rattle.std.proofs.Common.{◌≡◌, ◌-◌, ◌<◌, length, take, sym, refl, ap, ◌∙◌, arith, rules}
+use Rattle.std.proofs.Common.{◌-◌, ◌<◌, take, sym, refl, ap, ◌∙◌, arith, rules}
 use Rattle.std.proofs.lemmas.List.{length-take-le}
-use Rattle.skip.specs.Skipped.{skipped, strike_below}
+use Rattle.skip.specs.Skipped.{skipped}
 use Rattle.cards.proofs.AnswerLaws.{judged_place_lem}
 use Rattle.skip.proofs.SkipLaws.{skipped-strike}
 use Rattle.skip.proofs.TableLaws.{length_list, length_left, found, found-strike, found-strike_below}
 use Rattle.skip.proofs.SkipCardCard.strike.Goals as goal
 
-pub returns-in-err-judge-place : goal.returns-in-err-judge-place
-returns-in-err-judge-place g c =
+pub returns-in_err-judge_place : goal.returns-in_err-judge_place
+returns-in_err-judge_place g c =
     let t = length_list c.args.self.now.table c.args.self.now.count c.args.self.now.few
     c.args.self.now.size in
     let n = length_left c.args.self.now.table c.args.self.now.count
@@ -18,7 +18,7 @@ returns-in-err-judge-place g c =
 pub below-at-requires : goal.below-at-requires
 below-at-requires g c =
     let h : c.args.place < c.left.result = judged_place_lem c.left.result c.args.place
-    (sym c.in-ok-judge-place.ensures) in
+    (sym c.in_ok-judge_place.ensures) in
     let s = c.left.ensures.small (omega arith) in
     let t = length-take-le (c.args.self.now.count - 0) c.args.self.now.table (omega arith) in
     omega arith
@@ -28,7 +28,7 @@ returns g c =
     let f = found c.args.self.now.table c.args.self.now.count
     (g.C.Card.contents c.args.self.now.card) c.left.result c.args.place c.below-at.result
     c.args.self.now.few c.args.self.now.size
-    (judged_place_lem c.left.result c.args.place (sym c.in-ok-judge-place.ensures))
+    (judged_place_lem c.left.result c.args.place (sym c.in_ok-judge_place.ensures))
     c.left.ensures.count c.below-at.ensures in
     let u = c.strike.ensures.card ∙ found-strike_below
     (take c.args.self.now.count c.args.self.now.table)

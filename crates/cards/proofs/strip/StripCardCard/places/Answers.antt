@@ -4,4 +4,4 @@ use Rattle.cards.proofs.RowLaws.{length-rows}
 use Rattle.cards.proofs.strip.StripCardCard.places.Goals as goal
 
 pub returns : goal.returns
-returns c = c.row-count.ensures ∙ sym (length-rows c.args.self.now.mem.now)
+returns c = c.row_count.ensures ∙ sym (length-rows c.args.self.now.mem.now)

@@ -4,15 +4,15 @@ use Rattle.cards.specs.Rows.{rows, put_memory}
 use Rattle.cards.proofs.RowLaws.{length-rows, rows-put}
 use Rattle.cards.proofs.strip.StripCardCard.put.Goals as goal
 
-pub returns-in-err-judge-call : goal.returns-in-err-judge-call
-returns-in-err-judge-call c =
+pub returns-in_err-judge_call : goal.returns-in_err-judge_call
+returns-in_err-judge_call c =
     let n = length-rows c.args.self.now.mem.now in
     record { answer = search rules; card = search rules; memory = search rules; held = refl }
 
 pub returns : goal.returns
 returns c =
     let n = length-rows c.args.self.now.mem.now in
-    let m : c.write-row.new.mem ≡ put_memory c.args.self.now.mem.now c.args.place
+    let m : c.write_row.new.mem ≡ put_memory c.args.self.now.mem.now c.args.place
     c.args.block.now = search rules in
     record {
       answer = search rules;

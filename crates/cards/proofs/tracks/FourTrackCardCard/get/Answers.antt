@@ -4,8 +4,8 @@ use Rattle.cards.specs.Memories.{memories}
 use Rattle.cards.proofs.TrackLaws.{length-dealt, content_at-dealt}
 use Rattle.cards.proofs.tracks.FourTrackCardCard.get.Goals as goal
 
-pub returns-in-err-judge-call : goal.returns-in-err-judge-call
-returns-in-err-judge-call c =
+pub returns-in_err-judge_call : goal.returns-in_err-judge_call
+returns-in_err-judge_call c =
     let n = length-dealt (memories c.args.self.now) in
     record { answer = search rules; buffer = search rules }
 

@@ -5,15 +5,15 @@ use Rattle.cards.specs.Tracks.{dealt, put_memories}
 use Rattle.cards.proofs.TrackLaws.{length-dealt, dealt-put}
 use Rattle.cards.proofs.tracks.FourTrackCardCard.put.Goals as goal
 
-pub returns-in-err-judge-call : goal.returns-in-err-judge-call
-returns-in-err-judge-call c =
+pub returns-in_err-judge_call : goal.returns-in_err-judge_call
+returns-in_err-judge_call c =
     let n = length-dealt (memories c.args.self.now) in
     record { answer = search rules; card = search rules; memories = search rules; held = (refl, refl, refl, refl) }
 
 pub returns-in-0 : goal.returns-in-0
 returns-in-0 c =
     let n = length-dealt (memories c.args.self.now) in
-    let m : c.write-row.new.mem ∷ c.args.self.now.second.now ∷ c.args.self.now.third.now ∷ c.args.self.now.fourth.now ∷ []
+    let m : c.write_row.new.mem ∷ c.args.self.now.second.now ∷ c.args.self.now.third.now ∷ c.args.self.now.fourth.now ∷ []
     ≡ put_memories (memories c.args.self.now) c.args.place c.args.block.now = search rules in
     record {
       answer = search rules;
@@ -25,7 +25,7 @@ returns-in-0 c =
 pub returns-in-1 : goal.returns-in-1
 returns-in-1 c =
     let n = length-dealt (memories c.args.self.now) in
-    let m : c.args.self.now.first.now ∷ c.write-row-in-1.new.mem ∷ c.args.self.now.third.now ∷ c.args.self.now.fourth.now ∷ []
+    let m : c.args.self.now.first.now ∷ c.write_row-in-1.new.mem ∷ c.args.self.now.third.now ∷ c.args.self.now.fourth.now ∷ []
     ≡ put_memories (memories c.args.self.now) c.args.place c.args.block.now = search rules in
     record {
       answer = search rules;
@@ -37,7 +37,7 @@ returns-in-1 c =
 pub returns-in-2 : goal.returns-in-2
 returns-in-2 c =
     let n = length-dealt (memories c.args.self.now) in
-    let m : c.args.self.now.first.now ∷ c.args.self.now.second.now ∷ c.write-row-in-2.new.mem ∷ c.args.self.now.fourth.now ∷ []
+    let m : c.args.self.now.first.now ∷ c.args.self.now.second.now ∷ c.write_row-in-2.new.mem ∷ c.args.self.now.fourth.now ∷ []
     ≡ put_memories (memories c.args.self.now) c.args.place c.args.block.now = search rules in
     record {
       answer = search rules;
@@ -46,10 +46,10 @@ returns-in-2 c =
       held = (refl, refl, refl, refl);
     }
 
-pub returns-in-default : goal.returns-in-default
-returns-in-default c =
+pub returns-in_default : goal.returns-in_default
+returns-in_default c =
     let n = length-dealt (memories c.args.self.now) in
-    let m : c.args.self.now.first.now ∷ c.args.self.now.second.now ∷ c.args.self.now.third.now ∷ c.write-row-in-default.new.mem ∷ []
+    let m : c.args.self.now.first.now ∷ c.args.self.now.second.now ∷ c.args.self.now.third.now ∷ c.write_row-in_default.new.mem ∷ []
     ≡ put_memories (memories c.args.self.now) c.args.place c.args.block.now = search rules in
     record {
       answer = search rules;

@@ -5,15 +5,15 @@ use Rattle.cards.specs.Tracks.{dealt, strike_memories}
 use Rattle.cards.proofs.TrackLaws.{length-dealt, dealt-strike}
 use Rattle.cards.proofs.tracks.FourTrackCardCard.strike.Goals as goal
 
-pub returns-in-err-judge-place : goal.returns-in-err-judge-place
-returns-in-err-judge-place c =
+pub returns-in_err-judge_place : goal.returns-in_err-judge_place
+returns-in_err-judge_place c =
     let n = length-dealt (memories c.args.self.now) in
     record { answer = search rules; card = search rules; memories = search rules; held = (refl, refl, refl, refl) }
 
 pub returns-in-0 : goal.returns-in-0
 returns-in-0 c =
     let n = length-dealt (memories c.args.self.now) in
-    let m : c.strike-row.new.mem ∷ c.args.self.now.second.now ∷ c.args.self.now.third.now ∷ c.args.self.now.fourth.now ∷ []
+    let m : c.strike_row.new.mem ∷ c.args.self.now.second.now ∷ c.args.self.now.third.now ∷ c.args.self.now.fourth.now ∷ []
     ≡ strike_memories (memories c.args.self.now) c.args.place = search rules in
     record {
       answer = search rules;
@@ -25,7 +25,7 @@ returns-in-0 c =
 pub returns-in-1 : goal.returns-in-1
 returns-in-1 c =
     let n = length-dealt (memories c.args.self.now) in
-    let m : c.args.self.now.first.now ∷ c.strike-row-in-1.new.mem ∷ c.args.self.now.third.now ∷ c.args.self.now.fourth.now ∷ []
+    let m : c.args.self.now.first.now ∷ c.strike_row-in-1.new.mem ∷ c.args.self.now.third.now ∷ c.args.self.now.fourth.now ∷ []
     ≡ strike_memories (memories c.args.self.now) c.args.place = search rules in
     record {
       answer = search rules;
@@ -37,7 +37,7 @@ returns-in-1 c =
 pub returns-in-2 : goal.returns-in-2
 returns-in-2 c =
     let n = length-dealt (memories c.args.self.now) in
-    let m : c.args.self.now.first.now ∷ c.args.self.now.second.now ∷ c.strike-row-in-2.new.mem ∷ c.args.self.now.fourth.now ∷ []
+    let m : c.args.self.now.first.now ∷ c.args.self.now.second.now ∷ c.strike_row-in-2.new.mem ∷ c.args.self.now.fourth.now ∷ []
     ≡ strike_memories (memories c.args.self.now) c.args.place = search rules in
     record {
       answer = search rules;
@@ -46,10 +46,10 @@ returns-in-2 c =
       held = (refl, refl, refl, refl);
     }
 
-pub returns-in-default : goal.returns-in-default
-returns-in-default c =
+pub returns-in_default : goal.returns-in_default
+returns-in_default c =
     let n = length-dealt (memories c.args.self.now) in
-    let m : c.args.self.now.first.now ∷ c.args.self.now.second.now ∷ c.args.self.now.third.now ∷ c.strike-row-in-default.new.mem ∷ []
+    let m : c.args.self.now.first.now ∷ c.args.self.now.second.now ∷ c.args.self.now.third.now ∷ c.strike_row-in_default.new.mem ∷ []
     ≡ strike_memories (memories c.args.self.now) c.args.place = search rules in
     record {
       answer = search rules;
