@@ -11,4 +11,4 @@ pub loop-k-preserved : goal.loop-k-preserved
 unfolding power
 loop-k-preserved c =
     c.multiply-x.ensures ∙ ap (word_product 2) c.loop-k.invariant
-    ∙ ap (power word_product 2) (sym (add-one c.loop-k.-k))
+    ∙ ap (power word_product 2) (sym (add-one c.loop-k._k))
