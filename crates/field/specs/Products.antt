@@ -1,12 +1,12 @@
 -- Products of words modulo a polynomial: linear, commutative, associative, of the same width. Assumes nothing.
-use Rattle.std.specs.Prelude.{◌≡◌, ℕ, zero, suc, ◌+◌, ◌-◌, ◌*◌, ◌/◌, ◌%◌, ◌^◌, ◌<◌, ◌≤◌, bit_xor}
+use Rattle.std.specs.Prelude.{◌≡◌, ℕ, zero, suc, ◌+◌, ◌*◌, ◌/◌, ◌%◌, ◌^◌, ◌<◌, ◌≤◌, bit_xor}
 use Rattle.std.proofs.Math.Path.{refl, sym, ap, ap₂}
-use Rattle.std.proofs.Common.{◌∙◌, subst, le_refl, mul-one, add-zero, div-lt_iff_lt-mul, zero-mul, one-mul, mod-lt}
+use Rattle.std.proofs.Common.{◌∙◌, subst, le_refl, mul-one, div-lt_iff_lt-mul, zero-mul, one-mul, mod-lt}
 use Rattle.std.proofs.Math.Nat.{pow-succ', lt_of_lt_of_le, mul-zero, zero-div, zero-mod, pow-suc, div-eq_of_lt, div-add-mod', pow-le-pow_right}
 use native.Mathlib.Omega.{arith}
 use Rattle.std.proofs.Math.Pow.{pow_pos}
-use Rattle.std.specs.Int.Bits.{xor_assoc, xor_comm, xor_self, xor_zero_l, xor_zero_r, xor_lt, xor_block, xor_shifted}
-use Rattle.std.proofs.lemmas.Nat.{xor_shr, xor_mod}
+use Rattle.std.specs.Int.Bits.{xor_comm, xor_zero_r, xor_lt, xor_block, xor_shifted}
+use Rattle.std.proofs.lemmas.Nat.{xor_shr}
 use Rattle.field.specs.ExclusiveOr.{bit_left, bit_right, mod2-lt, xor_half, xor_low, xor-swap, xor-twice}
 use Rattle.field.specs.Polynomials.{double, times, product}
 

@@ -1,4 +1,4 @@
-use Rattle.std.proofs.Common.{◌≡◌, ◌*◌, ◌/◌, ◌%◌, ◌<◌, sym, ap, ◌∙◌, subst, ap₂, arith, rules}
+use Rattle.std.proofs.Common.{◌≡◌, ◌*◌, ◌/◌, ◌%◌, ◌<◌, sym, ◌∙◌, subst, ap₂, arith}
 use lib.Bits.{bit_xor}
 use Rattle.field.specs.Polynomials.{times}
 use Rattle.field.proofs.Additive.{nibble-bytes, nibble-lt}

@@ -1,4 +1,4 @@
-use Rattle.std.proofs.Common.{◌≡◌, sym, refl, ap, ◌∙◌, add-one}
+use Rattle.std.proofs.Common.{sym, refl, ap, ◌∙◌, add-one}
 use Rattle.field.specs.Polynomials.{word_product}
 use Rattle.field.specs.Sums.{power}
 use Rattle.field.proofs.two_byte.point_at.Goals as goal

@@ -1,6 +1,4 @@
-use Rattle.std.proofs.Common.{◌≡◌, ◌+◌, ◌-◌, ◌<◌, sym, refl, ap, ◌∙◌, ap₂, arith, rules}
-use Rattle.field.specs.Polynomials.{squares, word_inverse}
-use Rattle.field.specs.Polynomials.{word_product}
+use Rattle.std.proofs.Common.{◌<◌, arith}
 use Rattle.field.proofs.WordSteps.{squares-start, squares-step, squares_end}
 use Rattle.field.proofs.two_byte.reciprocal.Goals as goal
 
