@@ -10,11 +10,11 @@ use Rattle.field.specs.Sums.{total, power, weighted}
 use Rattle.field.proofs.Totals.{total_ext, total-lt}
 use Rattle.field.proofs.Powers.{power_none}
 use Rattle.field.specs.TwoFields.{word_field_laws}
-use Rattle.codes.specs.Code.{AllWords, Code, Lawful}
+use Rattle.codes.specs.Code.{AllWords}
 use Rattle.codes.specs.TwoCodes.{sum, SumsAreZero, by_sums, parity, parity_word, four_check}
 use Rattle.check_groups.specs.Groups.{next_word}
 use Rattle.codes.specs.Agreeing.{all_words, words_small}
-use Rattle.codes.specs.Grouping.{Carried, carried_none, carried_more, next-lt, tail, total-add, pw-lt}
+use Rattle.codes.specs.Grouping.{Carried, carried_none, carried_more, tail, total-add}
 use Rattle.codes.specs.Solutions.{Solves, solution}
 
 front_at : (ws cs : List ℕ) → length ws ≡ 16 → (i : ℕ) → i < 16 → slice_index (ws ++ cs) i ≡ slice_index ws i

@@ -1,14 +1,14 @@
 -- The check words of the words so far, carried from one group of four words to the next. Assumes nothing.
-use Rattle.std.specs.Prelude.{◌≡◌, ℕ, zero, suc, ◌+◌, ◌*◌, ◌%◌, ◌^◌, ◌<◌, List, [], ◌∷◌, length, bit_xor, slice_index, refl}
+use Rattle.std.specs.Prelude.{◌≡◌, ℕ, zero, suc, ◌+◌, ◌*◌, ◌^◌, ◌<◌, List, [], ◌∷◌, length, bit_xor, slice_index, refl}
 use Rattle.std.proofs.Math.Path.{sym, ap}
-use Rattle.std.proofs.Common.{◌∙◌, ap₂, subst, add-zero, add-suc, add-mul, add_assoc, mod-lt, arith, pow_pos, lit<}
+use Rattle.std.proofs.Common.{◌∙◌, ap₂, subst, add-zero, add-suc, add-mul, add_assoc, arith, pow_pos, lit<}
 use Rattle.std.specs.Int.Bits.{xor_assoc, xor_zero_r}
 use Rattle.std.proofs.lemmas.Nat.{xor_lt}
 use Rattle.field.specs.Polynomials.{double, times, product, word_product, word_inverse}
 use Rattle.field.specs.Sums.{total, power, weighted}
 use Rattle.field.specs.Computed.{same_at}
 use Rattle.field.proofs.Totals.{total_ext, total-xor, total_none, total-lt}
-use Rattle.field.proofs.Vandermonde.{total-mul, xor_l, zero_r}
+use Rattle.field.proofs.Vandermonde.{total-mul, zero_r}
 use Rattle.field.proofs.Powers.{power-lt, power-add}
 use Rattle.field.specs.TwoFields.{word_field_laws}
 use Rattle.check_groups.proofs.LanesNext.{number_lt}

@@ -1,15 +1,14 @@
 -- Codes whose check words make sums zero are lawful, and their right columns are those of zero sums. Assumes nothing.
-use Rattle.std.specs.Prelude.{◌≡◌, ℕ, zero, suc, ◌+◌, ◌^◌, ◌<◌, ◌≤◌, Bool, true, false, cond, ◌&&◌, T, ◌⊎◌, List, [], ◌∷◌, ◌++◌, map, length, take, drop, replicate, ◌==◌, slice_index, refl}
+use Rattle.std.specs.Prelude.{◌≡◌, ℕ, zero, suc, ◌+◌, ◌<◌, ◌≤◌, Bool, true, false, cond, ◌&&◌, T, List, [], ◌∷◌, ◌++◌, map, length, take, drop, replicate, ◌==◌, slice_index, refl}
 use Rattle.std.proofs.Common.{sym, ◌∙◌, ap, ap₂, subst, zero-le, eq-or-lt_of_le, le_of_suc-le-suc, le_trans, le_refl, zero-add, inl, inr, arith, eqb→eq, lit<, length-append}
 use Rattle.std.proofs.Math.Option.{Option, some, none}
 use Rattle.std.proofs.Math.Dec.{eqb_refl}
 use Rattle.std.proofs.lemmas.List.{take-append-drop, length-take-le, length-drop}
 use Rattle.field.specs.Polynomials.{word_product, word_inverse}
 use Rattle.field.specs.Sums.{weighted}
-use Rattle.field.specs.Laws.{PowersDiffer}
 use Rattle.field.specs.TwoFields.{word_field_laws, word_differ}
 use Rattle.codes.specs.Code.{AllWords, Code, Right, Lawful, differences}
-use Rattle.codes.specs.Rebuild.{Agrees, missing, fillings, find}
+use Rattle.codes.specs.Rebuild.{Agrees, missing, fillings}
 use Rattle.codes.specs.TwoCodes.{sum, zero_sums, SumsAreZero, by_sums, or_nothing, SumsMakeRight}
 use Rattle.codes.specs.Filling.{Vanishes}
 use Rattle.codes.specs.Searching.{is_true, and_left, and_right, agrees_among, among-agrees, find_only}
