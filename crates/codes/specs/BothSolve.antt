@@ -70,9 +70,12 @@ module _ (ws : List ℕ) (lw : length ws ≡ 16) (aw : AllWords ws) where
       → Carried (λ i. slice_index ws i) (n + 4) (stepped s n)
   unfolding stepped
   stepped-carried n s h c =
-      carried_more (λ i. slice_index ws i) n s (group n) (stepped s n) (λ q l. w-lt (n + q) (le_trans (subst (λ m. m ≤ n + 4) (add-suc n q) (add-le-add (le_refl n) l)) h)) grouped refl
-      made c
+      carried_more (λ i. slice_index ws i) n s (group n) (stepped s n) (λ q l. w-lt (n + q) (in_front q l)) grouped
+      refl made c
     where
+      in_front : (q : ℕ) → q < 4 → n + q < 16
+      in_front q l = le_trans (subst (λ m. m ≤ n + 4) (add-suc n q) (add-le-add (le_refl n) l)) h
+
       grouped : (q : ℕ) → q < 4 → slice_index (group n) q ≡ slice_index ws (n + q)
       grouped zero l = unfold group in ap (λ k. slice_index ws k) (sym (add-zero n))
       grouped (suc zero) l = unfold group in refl

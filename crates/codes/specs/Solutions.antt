@@ -47,8 +47,11 @@ equal : (r : ℕ) (us ws : List ℕ) → r ≤ 4 → Vanishes 16 word_product (1
     → differences us ws ≤ r → us ≡ ws
 equal r us ws r4 u w h =
     few-differences 16 word_product word_inverse word_field_laws (lit< tt) 2 (lit< tt) (16 + r)
-    (λ i j p q. word_differ i j (le_trans p (add-le-add (le_refl 16) r4)) (le_trans q (add-le-add (le_refl 16) r4))) r us ws u.long w.long u.small w.small
+    (λ i j p q. word_differ i j (le_trans p twenty) (le_trans q twenty)) r us ws u.long w.long u.small w.small
     u.sums w.sums h
+  where
+    twenty : 16 + r ≤ 20
+    twenty = add-le-add (le_refl 16) r4
 
 -- ---- the words that by_sums finds
 
