@@ -1,38 +1,13 @@
 -- What rebuild answers, from a filled column and its check words. Assumes nothing.
-use Rattle.std.proofs.Common.{◌≡◌, ℕ, zero, suc, ◌+◌, ◌-◌, ◌<◌, ◌≤◌, Bool, true, false, cond, T, ltb, List, [], ◌∷◌, ◌++◌, length, get_or, take, drop, replicate, Ok, Err, sym, refl, ap, ◌∙◌, subst, ap₂, le_trans, le_refl, arith}
-use mathlib.Core.Option.{Option, some, none}
+use Rattle.std.proofs.Common.{◌≡◌, ℕ, ◌+◌, ◌-◌, ◌<◌, ◌≤◌, Bool, false, cond, T, List, [], ◌∷◌, ◌++◌, length, get_or, take, drop, replicate, Ok, Err, sym, ap, ◌∙◌, subst, ap₂, arith}
+use Rattle.std.proofs.Math.Option.{Option, some}
 use Rattle.std.proofs.lemmas.List.{ext_get_or, get_or-take, length-take-le, take-append-drop, append_cancel_right, drop-take, drop-drop}
 use Rattle.std.proofs.lemmas.Bool.{lt-ltb, le-ltb}
-use Rattle.refusal.specs.Tells.{Answer}
-use Rattle.codes.specs.Code.{AllWords, Code, Right, Lawful}
-use Rattle.codes.specs.Rebuild.{
-  Agrees,
-  missing,
-  present,
-  seen,
-  fillings,
-  find,
-  is_right,
-  same_list,
-  rebuild,
-  offered,
-  answered,
-  IsTheColumn,
-  HasNoColumn,
-}
+use Rattle.codes.specs.Code.{Code, Right}
+use Rattle.codes.specs.Rebuild.{Agrees, missing, present, seen, fillings, is_right, same_list, rebuild, offered, answered, IsTheColumn, HasNoColumn}
 use Rattle.codes.specs.Filling.{missing_count, Keeps, Filled}
 use Rattle.codes.specs.Searching.{same-eq, same_refl, agrees_among, among-agrees, find_only, find_none}
-use Rattle.codes.specs.Agreeing.{
-  differ-missing,
-  same_length,
-  still-words,
-  agrees_from,
-  back_same,
-  missing-present,
-  all_words,
-  back_long,
-  back-small,
-}
+use Rattle.codes.specs.Agreeing.{same_length, still-words, agrees_from, back_same, missing-present, all_words, back_long, back-small}
 
 -- ---- the search
 

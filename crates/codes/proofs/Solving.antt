@@ -1,5 +1,5 @@
 -- One missing word from the sums of a column, over any field. Assumes nothing.
-use Rattle.std.proofs.Common.{◌≡◌, ℕ, zero, suc, ◌+◌, ◌-◌, ◌*◌, ◌^◌, ◌<◌, ◌≤◌, Bool, true, false, ◌⊎◌, List, length, get_or, sym, refl, ap, ◌∙◌, subst, ap₂, inl, inr, add-one, arith, lit≤}
+use Rattle.std.proofs.Common.{◌≡◌, ℕ, ◌+◌, ◌^◌, ◌<◌, ◌≤◌, Bool, true, false, ◌⊎◌, List, get_or, sym, ap, ◌∙◌, add-one, arith, lit≤}
 use native.Mathlib.Nat.{pow-le-pow_right}
 use lib.Bits.{bit_xor, xor_lt, xor_self}
 use Rattle.field.specs.Laws.{FieldLaws, PowersDiffer}

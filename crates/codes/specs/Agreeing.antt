@@ -1,6 +1,8 @@
 -- Columns that agree with the words present, position by position. Assumes nothing.
 use Rattle.std.specs.Prelude.{◌≡◌, ℕ, zero, suc, ◌+◌, ◌<◌, ◌≤◌, Bool, true, false, cond, T, List, [], ◌∷◌, ◌++◌, map, length, ◌==◌, slice_index, slice_index_or, refl}
-use Rattle.std.proofs.Common.{sym, ap, ap₂, ◌∙◌, subst, zero-le, add-zero, zero-add, not-suc-le-zero, add-one, arith, lit<}
+use Rattle.std.proofs.Common.{sym, ap, ap₂, ◌∙◌, subst, zero-le, add-zero, zero-add, not-suc-le-zero, le_of_suc-le-suc, suc-le-suc, le_trans, add-one, lit<}
+use Rattle.std.proofs.Math.Nat.{add_assoc, suc-add, suc-ne-zero, suc_inj, zero-lt-suc, le-suc}
+use Rattle.std.proofs.Math.Numerals.{one-add}
 use Rattle.std.proofs.Math.Option.{Option, some, none}
 use Rattle.std.proofs.Math.Dec.{eqb_refl}
 use Rattle.std.specs.List.{range_with_len}
@@ -10,6 +12,11 @@ use Rattle.codes.specs.Rebuild.{Agrees, missing, present}
 use Rattle.codes.specs.Filling.{missing_count}
 use Rattle.codes.specs.Searching.{is_true}
 
+-- one position counts for at most one
+pub at_most_one : (b : Bool) (d m : ℕ) → d ≤ m → cond b 0 1 + d ≤ suc m
+at_most_one true d m l = subst (λ (n : ℕ). n ≤ suc m) (sym (zero-add d)) (le_trans l (le-suc m))
+at_most_one false d m l = subst (λ (n : ℕ). n ≤ suc m) (sym (one-add d)) (suc-le-suc l)
+
 -- two columns that agree with the words present differ at most where words are missing
 pub differ-missing : (c : List (Option ℕ)) (u w : List ℕ) → Agrees c u → Agrees c w → differences u w ≤ missing c
 differ-missing [] [] [] h k = zero-le
@@ -17,11 +24,8 @@ differ-missing [] [] (y ∷ w) h k = absurd k
 differ-missing [] (x ∷ u) w h k = absurd h
 differ-missing (none ∷ c) [] w h k = absurd h
 differ-missing (none ∷ c) (x ∷ u) [] h k = absurd k
-differ-missing (none ∷ c) (x ∷ u) (y ∷ w) h k = at_most_one (x == y) (differ-missing c u w h.1 k.1)
-  where
-    at_most_one : (b : Bool) → differences u w ≤ missing c → cond b 0 1 + differences u w ≤ suc (missing c)
-    at_most_one true l = omega arith
-    at_most_one false l = omega arith
+differ-missing (none ∷ c) (x ∷ u) (y ∷ w) h k =
+    at_most_one (x == y) (differences u w) (missing c) (differ-missing c u w h.1 k.1)
 differ-missing (some v ∷ c) [] w h k = absurd h
 differ-missing (some v ∷ c) (x ∷ u) [] h k = absurd k
 differ-missing (some v ∷ c) (x ∷ u) (y ∷ w) h k =
@@ -55,7 +59,7 @@ still-words (some v ∷ c) (x ∷ u) (y ∷ w) h k a =
 
 pub all_words : (w : List ℕ) → ((i : ℕ) → i < length w → slice_index w i < 65536) → AllWords w
 all_words [] h = tt
-all_words (x ∷ w) h = (h 0 (omega arith), all_words w (λ i l. h (suc i) (omega arith)))
+all_words (x ∷ w) h = (h 0 (zero-lt-suc (length w)), all_words w (λ i l. h (suc i) (suc-le-suc l)))
 
 module _ (m : ℕ → Bool) (col : ℕ → ℕ) where
   abbrev hole : ℕ → Option ℕ
@@ -64,18 +68,21 @@ module _ (m : ℕ → Bool) (col : ℕ → ℕ) where
   pub agrees_from : (a n : ℕ) (w : List ℕ) → length w ≡ n → ((k : ℕ) → k < n → slice_index w k < 65536)
       → ((k : ℕ) → k < n → m (a + k) ≡ false → slice_index w k ≡ col (a + k)) → Agrees (map hole (range_with_len a n)) w
   agrees_from a zero [] l s h = tt
-  agrees_from a zero (x ∷ w) l s h = absurd (let z : suc (length w) ≡ 0 = l in omega arith)
-  agrees_from a (suc n) [] l s h = absurd (let z : 0 ≡ suc n = l in omega arith)
+  agrees_from a zero (x ∷ w) l s h = absurd (suc-ne-zero (length w) l)
+  agrees_from a (suc n) [] l s h = absurd (suc-ne-zero n (sym l))
   agrees_from a (suc n) (x ∷ w) l s h =
       go (m a) refl
-      (agrees_from (a + 1) n w (let z : suc (length w) ≡ suc n = l in omega arith) (λ k q. s (suc k) (omega arith))
-      (λ k q e. let z : a + 1 + k ≡ a + suc k = omega arith in h (suc k) (omega arith) (ap m (sym z) ∙ e)
-      ∙ ap col (sym z)))
+      (agrees_from (a + 1) n w (suc_inj l) (λ k q. s (suc k) (suc-le-suc q))
+      (λ k q e. h (suc k) (suc-le-suc q) (ap m (sym (one_more k)) ∙ e)
+      ∙ ap col (sym (one_more k))))
     where
+      one_more : (k : ℕ) → a + 1 + k ≡ a + suc k
+      one_more k = add_assoc a 1 k ∙ ap (λ (x : ℕ). a + x) (one-add k)
+
       go : (b : Bool) → m a ≡ b → Agrees (map hole (range_with_len (a + 1) n)) w
           → Agrees (cond b none (some (col a)) ∷ map hole (range_with_len (a + 1) n)) (x ∷ w)
-      go true e r = (s 0 (omega arith), r)
-      go false e r = (sym (h 0 (omega arith) (ap m (add-zero a) ∙ e) ∙ ap col (add-zero a)), r)
+      go true e r = (s 0 (zero-lt-suc n), r)
+      go false e r = (sym (h 0 (zero-lt-suc n) (ap m (add-zero a) ∙ e) ∙ ap col (add-zero a)), r)
 
   -- and back
   pub back_long : (a n : ℕ) (w : List ℕ) → Agrees (map hole (range_with_len a n)) w → length w ≡ n
@@ -98,7 +105,7 @@ module _ (m : ℕ → Bool) (col : ℕ → ℕ) where
       go : (b : Bool) → Agrees (cond b none (some (col a)) ∷ map hole (range_with_len (a + 1) n)) (x ∷ w) → x < 65536
       go true h = h.0
       go false h = subst (λ y. y < 65536) h.0 (cs a)
-  back-small cs a (suc n) (x ∷ w) h (suc k) l = back-small cs (a + 1) n w (go (m a) h) k (omega arith)
+  back-small cs a (suc n) (x ∷ w) h (suc k) l = back-small cs (a + 1) n w (go (m a) h) k (le_of_suc-le-suc l)
     where
       go : (b : Bool) → Agrees (cond b none (some (col a)) ∷ map hole (range_with_len (a + 1) n)) (x ∷ w)
           → Agrees (map hole (range_with_len (a + 1) n)) w
@@ -113,11 +120,11 @@ module _ (m : ℕ → Bool) (col : ℕ → ℕ) where
     where
       go : (b : Bool) → b ≡ false → Agrees (cond b none (some (col a)) ∷ map hole (range_with_len (a + 1) n)) (x ∷ w)
           → x ≡ col a
-      go true e h = absurd (let z : ◌≡◌ {A = ℕ} 0 1 = cc in omega arith)
+      go true e h = absurd (subst T e tt)
       go false e h = sym h.0
   back_same a (suc n) (x ∷ w) h (suc k) l e =
-      let z : a + suc k ≡ a + 1 + k = omega arith in
-      back_same (a + 1) n w (go (m a) h) k (omega arith) (ap m (sym z) ∙ e) ∙ ap col (sym z)
+      let z : a + suc k ≡ a + 1 + k = sym (add_assoc a 1 k ∙ ap (λ (x : ℕ). a + x) (one-add k)) in
+      back_same (a + 1) n w (go (m a) h) k (le_of_suc-le-suc l) (ap m (sym z) ∙ e) ∙ ap col (sym z)
     where
       go : (b : Bool) → Agrees (cond b none (some (col a)) ∷ map hole (range_with_len (a + 1) n)) (x ∷ w)
           → Agrees (map hole (range_with_len (a + 1) n)) w
@@ -126,8 +133,7 @@ module _ (m : ℕ → Bool) (col : ℕ → ℕ) where
 
 missing-append : (c e : List (Option ℕ)) → missing (c ++ e) ≡ missing c + missing e
 missing-append [] e = sym (zero-add (missing e))
-missing-append (none ∷ c) e = ap suc (missing-append c e)
-    ∙ (let q : suc (missing c + missing e) ≡ suc (missing c) + missing e = omega arith in q)
+missing-append (none ∷ c) e = ap suc (missing-append c e) ∙ sym (suc-add (missing c) (missing e))
 missing-append (some u ∷ c) e = missing-append c e
 
 pub missing-present : (n : ℕ) (ws : List ℕ) (ms : List Bool) → missing (present n ws ms) ≡ missing_count ms n
@@ -135,7 +141,7 @@ unfolding present missing_count
 missing-present zero ws ms = refl
 missing-present (suc n) ws ms =
     ap (λ k. missing (map f (range_with_len 0 k))) (sym (add-one n))
-    ∙ ap missing (map-range_with_len_more f 0 n n (omega arith)) ∙ missing-append (map f (range_with_len 0 n)) (f n ∷ [])
+    ∙ ap missing (map-range_with_len_more f 0 n n (zero-add n)) ∙ missing-append (map f (range_with_len 0 n)) (f n ∷ [])
     ∙ ap₂ (λ x y. x + y) (missing-present n ws ms) (go (slice_index_or ms n false))
   where
     f : ℕ → Option ℕ
@@ -149,7 +155,7 @@ missing-present (suc n) ws ms =
 pub words_small : (ws : List ℕ) → AllWords ws → (i : ℕ) → i < length ws → slice_index ws i < 65536
 words_small [] a i l = absurd (not-suc-le-zero l)
 words_small (w ∷ ws) a zero l = a.0
-words_small (w ∷ ws) a (suc i) l = words_small ws a.1 i (omega arith)
+words_small (w ∷ ws) a (suc i) l = words_small ws a.1 i (le_of_suc-le-suc l)
 
 pub fits_all : (ws : List ℕ) → AllWords ws → (k : ℕ) → slice_index ws k < 65536
 fits_all [] a k = lit< tt

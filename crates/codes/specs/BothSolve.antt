@@ -1,8 +1,8 @@
 -- The check words of the parity code and of the four-check code make their sums zero. Assumes nothing.
 use Rattle.std.specs.Prelude.{◌≡◌, ℕ, zero, suc, ◌+◌, ◌*◌, ◌^◌, ◌<◌, ◌≤◌, List, [], ◌∷◌, ◌++◌, length, bit_xor, slice_index}
 use Rattle.std.proofs.Math.Path.{refl, ap}
-use Rattle.std.proofs.Common.{sym, ◌∙◌, ap₂, subst, lit<, lit≤, length-append}
-use native.Mathlib.Omega.{arith}
+use Rattle.std.proofs.Common.{sym, ◌∙◌, ap₂, subst, lit<, lit≤, length-append, add-zero, add-suc, le_trans, le_refl, le_of_suc-le-suc, not-suc-le-zero}
+use Rattle.std.proofs.Math.Nat.{add-le-add}
 use Rattle.std.specs.Int.Bits.{xor_self, xor_zero_l}
 use Rattle.std.proofs.lemmas.List.{get_or_append_left, get_or-append-add}
 use Rattle.field.specs.Polynomials.{word_product, word_inverse}
@@ -10,11 +10,11 @@ use Rattle.field.specs.Sums.{total, power, weighted}
 use Rattle.field.proofs.Totals.{total_ext, total-lt}
 use Rattle.field.proofs.Powers.{power_none}
 use Rattle.field.specs.TwoFields.{word_field_laws}
-use Rattle.codes.specs.Code.{AllWords, Code, Lawful}
+use Rattle.codes.specs.Code.{AllWords}
 use Rattle.codes.specs.TwoCodes.{sum, SumsAreZero, by_sums, parity, parity_word, four_check}
 use Rattle.check_groups.specs.Groups.{next_word}
 use Rattle.codes.specs.Agreeing.{all_words, words_small}
-use Rattle.codes.specs.Grouping.{Carried, carried_none, carried_more, next-lt, tail, total-add, pw-lt}
+use Rattle.codes.specs.Grouping.{not-four, Carried, carried_none, carried_more, tail, total-add}
 use Rattle.codes.specs.Solutions.{Solves, solution}
 
 front_at : (ws cs : List ℕ) → length ws ≡ 16 → (i : ℕ) → i < 16 → slice_index (ws ++ cs) i ≡ slice_index ws i
@@ -70,22 +70,25 @@ module _ (ws : List ℕ) (lw : length ws ≡ 16) (aw : AllWords ws) where
       → Carried (λ i. slice_index ws i) (n + 4) (stepped s n)
   unfolding stepped
   stepped-carried n s h c =
-      carried_more (λ i. slice_index ws i) n s (group n) (stepped s n) (λ q l. w-lt (n + q) (omega arith)) grouped refl
-      made c
+      carried_more (λ i. slice_index ws i) n s (group n) (stepped s n) (λ q l. w-lt (n + q) (in_front q l)) grouped
+      refl made c
     where
+      in_front : (q : ℕ) → q < 4 → n + q < 16
+      in_front q l = le_trans (subst (λ m. m ≤ n + 4) (add-suc n q) (add-le-add (le_refl n) l)) h
+
       grouped : (q : ℕ) → q < 4 → slice_index (group n) q ≡ slice_index ws (n + q)
-      grouped zero l = unfold group in ap (λ k. slice_index ws k) (let z : n ≡ n + 0 = omega arith in z)
+      grouped zero l = unfold group in ap (λ k. slice_index ws k) (sym (add-zero n))
       grouped (suc zero) l = unfold group in refl
       grouped (suc (suc zero)) l = unfold group in refl
       grouped (suc (suc (suc zero))) l = unfold group in refl
-      grouped (suc (suc (suc (suc q)))) l = absurd (omega arith)
+      grouped (suc (suc (suc (suc q)))) l = absurd (not-four l)
 
       made : (p : ℕ) → p < 4 → slice_index (stepped s n) p ≡ next_word (λ q. slice_index s q) (λ q. slice_index (group n) q) p
       made zero l = refl
       made (suc zero) l = refl
       made (suc (suc zero)) l = refl
       made (suc (suc (suc zero))) l = refl
-      made (suc (suc (suc (suc p)))) l = absurd (omega arith)
+      made (suc (suc (suc (suc p)))) l = absurd (not-four l)
 
   -- there are such words
   four-words : (cs : List ℕ) × Carried (λ i. slice_index ws i) 16 cs
@@ -122,7 +125,7 @@ unfolding parity_word
 parity-lt ws l a = total-lt (λ i. slice_index ws i) 16 16 (λ i h. words_small ws a i (subst (λ n. i < n) (sym l) h))
 
 parity_zero : (ws : List ℕ) → length ws ≡ 16 → AllWords ws → SumsAreZero 1 (ws ++ parity_word ws ∷ [])
-parity_zero ws l a (suc j) h = absurd (omega arith)
+parity_zero ws l a (suc j) h = absurd (not-suc-le-zero (le_of_suc-le-suc h))
 parity_zero ws l a zero h =
     sum-parts 1 0 ws (parity_word ws ∷ []) l refl
     ∙ ap₂ bit_xor (plain-sum 16 (λ i. slice_index ws i) (λ i q. words_small ws a i (subst (λ n. i < n) (sym l) q)))

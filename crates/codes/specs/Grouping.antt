@@ -1,14 +1,14 @@
 -- The check words of the words so far, carried from one group of four words to the next. Assumes nothing.
-use Rattle.std.specs.Prelude.{◌≡◌, ℕ, zero, suc, ◌+◌, ◌*◌, ◌%◌, ◌^◌, ◌<◌, List, [], ◌∷◌, length, bit_xor, slice_index, refl}
+use Rattle.std.specs.Prelude.{◌≡◌, ℕ, zero, suc, ◌+◌, ◌*◌, ◌^◌, ◌<◌, List, [], ◌∷◌, length, bit_xor, slice_index, refl}
 use Rattle.std.proofs.Math.Path.{sym, ap}
-use Rattle.std.proofs.Common.{◌∙◌, ap₂, subst, add-zero, add-suc, add-mul, add_assoc, mod-lt, arith, pow_pos, lit<}
+use Rattle.std.proofs.Common.{◌∙◌, ap₂, subst, add-zero, add-suc, add-mul, add_assoc, zero-add, le_of_suc-le-suc, not-suc-le-zero, pow_pos, lit<}
 use Rattle.std.specs.Int.Bits.{xor_assoc, xor_zero_r}
 use Rattle.std.proofs.lemmas.Nat.{xor_lt}
 use Rattle.field.specs.Polynomials.{double, times, product, word_product, word_inverse}
 use Rattle.field.specs.Sums.{total, power, weighted}
 use Rattle.field.specs.Computed.{same_at}
 use Rattle.field.proofs.Totals.{total_ext, total-xor, total_none, total-lt}
-use Rattle.field.proofs.Vandermonde.{total-mul, xor_l, zero_r}
+use Rattle.field.proofs.Vandermonde.{total-mul, zero_r}
 use Rattle.field.proofs.Powers.{power-lt, power-add}
 use Rattle.field.specs.TwoFields.{word_field_laws}
 use Rattle.check_groups.proofs.LanesNext.{number_lt}
@@ -41,6 +41,9 @@ total-mul_left g v n p h =
 
 -- ---- the numbers of a group
 
+pub not-four : {n : ℕ} → suc (suc (suc (suc n))) < 4 → ⊥
+not-four h = not-suc-le-zero (le_of_suc-le-suc (le_of_suc-le-suc (le_of_suc-le-suc (le_of_suc-le-suc h))))
+
 -- in each of the four sums a word counts as much as what it adds to the check words behind its group
 number-sums : (j : ℕ) → j < 4 → (q : ℕ) → q < 4
     → power word_product 2 (q * j) ≡ total (λ p. word_product (power word_product 2 ((4 + p) * j)) (number p q)) 4
@@ -55,7 +58,7 @@ number-sums (suc (suc zero)) h =
 number-sums (suc (suc (suc zero))) h =
     same_at (λ q. power word_product 2 (q * 3))
     (λ q. total (λ p. word_product (power word_product 2 ((4 + p) * 3)) (number p q)) 4) 4 tt
-number-sums (suc (suc (suc (suc j)))) h = absurd (omega arith)
+number-sums (suc (suc (suc (suc j)))) h = absurd (not-four h)
 
 -- what four words from position n on add to sum j
 unfoldable pub tail : ℕ → ℕ → (ℕ → ℕ) → ℕ
@@ -101,7 +104,7 @@ tail_next : (j : ℕ) (s g : ℕ → ℕ) → j < 4 → ((q : ℕ) → q < 4 →
 unfolding tail next_word
 tail_next j s g hj hs hg =
     total_ext _ _ 4 (λ q l.
-    ap (λ t. word_product (power word_product 2 (t * j)) (f q)) (let z : 0 + q ≡ q = omega arith in z)
+    ap (λ t. word_product (power word_product 2 (t * j)) (f q)) (zero-add q)
     ∙ ap (λ t. word_product t (f q)) (number-sums j hj q l)
     ∙ total-mul_left (λ p. word_product (b p) (number p q)) (f q) 4 (f_lt q l)
     (λ p k. word_field_laws.mul-lt _ _ (b_lt p) (number_lt p q k l))

@@ -1,6 +1,7 @@
 -- Columns found by search: one agrees with the words present exactly when it is one of the fillings. Assumes nothing.
 use Rattle.std.specs.Prelude.{◌≡◌, ℕ, zero, suc, ◌<◌, ◌≤◌, Bool, true, false, cond, ◌&&◌, T, ◌⊎◌, List, [], ◌∷◌, ◌++◌, map, ◌==◌, refl}
-use Rattle.std.proofs.Common.{sym, ap, ap₂, ◌∙◌, subst, inl, inr, zero-le, suc-le-suc, le_of_suc-le-suc, not-suc-le-zero, le_refl, le_trans, arith, eqb→eq}
+use Rattle.std.proofs.Common.{sym, ap, ap₂, ◌∙◌, subst, inl, inr, zero-le, suc-le-suc, le_of_suc-le-suc, not-suc-le-zero, le_refl, le_trans, eqb→eq}
+use Rattle.std.proofs.Math.Nat.{le-suc}
 use Rattle.std.proofs.Math.Option.{Option, some, none}
 use Rattle.std.proofs.Math.Dec.{eqb_refl}
 use Rattle.codes.specs.Rebuild.{Agrees, fillings, below, each_then, find, same_list}
@@ -102,7 +103,7 @@ words_among : {u : ℕ} (n : ℕ) → Among u (below n) → u < n
 unfolding below
 words_among zero h = elim h [ ]
 words_among (suc n) first = le_refl (suc n)
-words_among (suc n) (later h) = le_trans (words_among n h) (le_of_suc-le-suc (omega arith))
+words_among (suc n) (later h) = le_trans (words_among n h) (le-suc n)
 
 -- a column agrees with the words present exactly when it is one of the fillings
 pub agrees_among : (c : List (Option ℕ)) (w : List ℕ) → Agrees c w → Among w (fillings c)

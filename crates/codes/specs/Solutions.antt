@@ -1,25 +1,25 @@
 -- Codes whose check words make sums zero are lawful, and their right columns are those of zero sums. Assumes nothing.
-use Rattle.std.specs.Prelude.{◌≡◌, ℕ, zero, suc, ◌+◌, ◌^◌, ◌<◌, ◌≤◌, Bool, true, false, cond, ◌&&◌, T, ◌⊎◌, List, [], ◌∷◌, ◌++◌, map, length, take, drop, replicate, ◌==◌, slice_index, refl}
-use Rattle.std.proofs.Common.{sym, ◌∙◌, ap, ap₂, subst, zero-le, eq-or-lt_of_le, le_of_suc-le-suc, le_trans, le_refl, zero-add, inl, inr, arith, eqb→eq, lit<, length-append}
+use Rattle.std.specs.Prelude.{◌≡◌, ℕ, zero, suc, ◌+◌, ◌-◌, ◌<◌, ◌≤◌, Bool, cond, ◌&&◌, T, List, [], ◌∷◌, ◌++◌, map, length, take, drop, replicate, ◌==◌, slice_index, refl}
+use Rattle.std.proofs.Common.{sym, ◌∙◌, ap, ap₂, subst, zero-le, eq-or-lt_of_le, le_of_suc-le-suc, le_trans, le_refl, zero-add, inl, inr, eqb→eq, lit<, length-append, not-suc-le-zero}
+use Rattle.std.proofs.Math.Nat.{suc-ne-zero, suc_inj, le-suc, le-add_right, add-le-add, add-sub_cancel_left}
 use Rattle.std.proofs.Math.Option.{Option, some, none}
 use Rattle.std.proofs.Math.Dec.{eqb_refl}
 use Rattle.std.proofs.lemmas.List.{take-append-drop, length-take-le, length-drop}
 use Rattle.field.specs.Polynomials.{word_product, word_inverse}
 use Rattle.field.specs.Sums.{weighted}
-use Rattle.field.specs.Laws.{PowersDiffer}
 use Rattle.field.specs.TwoFields.{word_field_laws, word_differ}
 use Rattle.codes.specs.Code.{AllWords, Code, Right, Lawful, differences}
-use Rattle.codes.specs.Rebuild.{Agrees, missing, fillings, find}
+use Rattle.codes.specs.Rebuild.{Agrees, missing, fillings}
 use Rattle.codes.specs.TwoCodes.{sum, zero_sums, SumsAreZero, by_sums, or_nothing, SumsMakeRight}
 use Rattle.codes.specs.Filling.{Vanishes}
 use Rattle.codes.specs.Searching.{is_true, and_left, and_right, agrees_among, among-agrees, find_only}
-use Rattle.codes.specs.Agreeing.{differ-missing, same_length, still-words, words_small}
+use Rattle.codes.specs.Agreeing.{at_most_one, differ-missing, same_length, still-words, words_small}
 use Rattle.codes.specs.Distance.{few-differences}
 
 -- ---- the test of zero sums
 
 zero_fact : (r : ℕ) (ws : List ℕ) → T (zero_sums r ws) → SumsAreZero r ws
-zero_fact zero ws t j h = absurd (omega arith)
+zero_fact zero ws t j h = absurd (not-suc-le-zero h)
 zero_fact (suc r) ws t j h = elim (eq-or-lt_of_le (le_of_suc-le-suc h)) [
   | inl e ↦ ap (λ i. sum i ws) e ∙ eqb→eq (sum r ws) 0 (and_left _ _ t)
   | inr l ↦ zero_fact r ws (and_right _ _ t) j l
@@ -29,8 +29,8 @@ zero_test : (r : ℕ) (ws : List ℕ) → SumsAreZero r ws → T (zero_sums r ws
 zero_test zero ws h = tt
 zero_test (suc r) ws h =
     subst (λ (b : Bool). T (b && zero_sums r ws))
-    (sym (is_true (sum r ws == 0) (subst (λ v. T (v == 0)) (sym (h r (omega arith))) tt)))
-    (zero_test r ws (λ j l. h j (omega arith)))
+    (sym (is_true (sum r ws == 0) (subst (λ v. T (v == 0)) (sym (h r (le_refl (suc r)))) tt)))
+    (zero_test r ws (λ j l. h j (le_trans l (le-suc r))))
 
 -- ---- columns of zero sums
 
@@ -47,8 +47,11 @@ equal : (r : ℕ) (us ws : List ℕ) → r ≤ 4 → Vanishes 16 word_product (1
     → differences us ws ≤ r → us ≡ ws
 equal r us ws r4 u w h =
     few-differences 16 word_product word_inverse word_field_laws (lit< tt) 2 (lit< tt) (16 + r)
-    (λ i j p q. word_differ i j (omega arith) (omega arith)) r us ws u.long w.long u.small w.small
+    (λ i j p q. word_differ i j (le_trans p twenty) (le_trans q twenty)) r us ws u.long w.long u.small w.small
     u.sums w.sums h
+  where
+    twenty : 16 + r ≤ 20
+    twenty = add-le-add (le_refl 16) r4
 
 -- ---- the words that by_sums finds
 
@@ -56,9 +59,9 @@ gaps_agree : (ws cs : List ℕ) (r : ℕ) → length cs ≡ r → AllWords cs
     → Agrees (map some ws ++ replicate r none) (ws ++ cs)
 gaps_agree (w ∷ ws) cs r l a = (refl, gaps_agree ws cs r l a)
 gaps_agree [] [] zero l a = tt
-gaps_agree [] [] (suc r) l a = absurd (omega arith)
-gaps_agree [] (c ∷ cs) zero l a = absurd (omega arith)
-gaps_agree [] (c ∷ cs) (suc r) l a = (a.0, gaps_agree [] cs r (omega arith) a.1)
+gaps_agree [] [] (suc r) l a = absurd (suc-ne-zero r (sym l))
+gaps_agree [] (c ∷ cs) zero l a = absurd (suc-ne-zero (length cs) l)
+gaps_agree [] (c ∷ cs) (suc r) l a = (a.0, gaps_agree [] cs r (suc_inj l) a.1)
 
 gaps-missing : (ws : List ℕ) (r : ℕ) → missing (map some ws ++ replicate r none) ≡ r
 gaps-missing (w ∷ ws) r = gaps-missing ws r
@@ -122,15 +125,11 @@ few-behind (x ∷ t) us ws =
     (subst (λ n. n ≤ length us) (sym (zero-add (differences (t ++ us) (t ++ ws)))) (few-behind t us ws))
 few-behind [] [] ws = zero-le
 few-behind [] (u ∷ us) [] = zero-le
-few-behind [] (u ∷ us) (w ∷ ws) = most (u == w) (few-behind [] us ws)
-  where
-    most : (b : Bool) → differences us ws ≤ length us → cond b 0 1 + differences us ws ≤ suc (length us)
-    most true h = omega arith
-    most false h = omega arith
+few-behind [] (u ∷ us) (w ∷ ws) = at_most_one (u == w) (differences us ws) (length us) (few-behind [] us ws)
 
 module _ (code : Code) (S : Solves code) where
   front_long : (ws : List ℕ) → length ws ≡ 16 + code.r → length (take 16 ws) ≡ 16
-  front_long ws l = length-take-le 16 ws (omega arith)
+  front_long ws l = length-take-le 16 ws (subst (λ n. 16 ≤ n) (sym l) (le-add_right 16 code.r))
 
   pub right_zero : (ws : List ℕ) → Right code ws → SumsAreZero code.r ws
   right_zero ws r =
@@ -166,7 +165,9 @@ module _ (code : Code) (S : Solves code) where
       near : differences ws (t ++ code.checks t) ≤ code.r
       near =
           subst (λ x. differences x (t ++ code.checks t) ≤ code.r) parts
-          (le_trans (few-behind t (drop 16 ws) (code.checks t)) (omega (arith, length-drop 16 ws)))
+          (le_trans (few-behind t (drop 16 ws) (code.checks t))
+          (subst (λ n. n ≤ code.r)
+          (sym (length-drop 16 ws ∙ ap (λ n. n - 16) l ∙ add-sub_cancel_left 16 code.r)) (le_refl code.r)))
 
       same : ws ≡ t ++ code.checks t
       same =

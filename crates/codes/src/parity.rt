@@ -22,6 +22,7 @@ impl CheckCode for Parity {
         1
     }
 
+    #[tactic(auto, unfolding(crate::specs::TwoCodes::parity_word))]
     fn check_words(&self, words: [u16; 16]) -> [u16; 4] {
         [xor_front(words), 0, 0, 0]
     }

@@ -1,3 +1,4 @@
 pub mod WordLaws
 pub mod CheckBytes
 pub mod Checking
+pub mod Rebuilding

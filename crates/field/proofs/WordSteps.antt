@@ -1,9 +1,6 @@
 -- Steps of the loop that inverts two-byte words. Assumes nothing.
-use Rattle.std.proofs.Common.{◌≡◌, ℕ, zero, suc, ◌+◌, ◌-◌, ◌*◌, ◌/◌, ◌%◌, ◌^◌, ◌<◌, ◌≤◌, sym, refl, ap, ◌∙◌, subst, ap₂, pow-suc, mul-zero, mul-one, div-one, arith, lit<, lit≤}
-use native.Mathlib.Nat.{div-eq_of_lt, div-div-eq-div-mul}
-use lib.Bits.{bit_xor, bit_and, xor_zero_r, xor_comm, and_mask}
-use Rattle.field.specs.Polynomials.{double, times, product, squares, inverse, word_product, word_inverse}
-use Rattle.field.specs.Products.{double-lt}
+use Rattle.std.proofs.Common.{◌≡◌, ℕ, suc, ◌+◌, ◌-◌, ◌<◌, ◌≤◌, sym, refl, ap, ◌∙◌, subst, ap₂, arith, lit<}
+use Rattle.field.specs.Polynomials.{squares, inverse, word_product, word_inverse}
 use Rattle.field.specs.Inverses.{squares-lt}
 use Rattle.field.specs.TwoFields.{word_field_laws}
 

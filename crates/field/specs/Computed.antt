@@ -1,7 +1,7 @@
 -- Rules that hold at each number below another, or at each entry of a table, by a test that antt computes. Assumes
 -- nothing.
-use Rattle.std.specs.Prelude.{◌≡◌, ℕ, zero, suc, ◌+◌, ◌<◌, Bool, true, false, T, ◌⊎◌, List, [], ◌∷◌, length, ◌==◌, slice_index}
-use Rattle.std.proofs.Common.{sym, ◌∙◌, ap, subst, inl, inr, add-zero, zero-add, add-suc, suc-add, eq-or-lt_of_le, le_of_suc-le-suc, not-suc-le-zero, arith, eqb→eq}
+use Rattle.std.specs.Prelude.{◌≡◌, ℕ, zero, suc, ◌+◌, ◌<◌, Bool, true, false, T, List, [], ◌∷◌, length, ◌==◌, slice_index}
+use Rattle.std.proofs.Common.{sym, ◌∙◌, ap, subst, inl, inr, add-zero, zero-add, add-suc, suc-add, eq-or-lt_of_le, le_of_suc-le-suc, not-suc-le-zero, eqb→eq}
 
 -- a test of two functions at each number below n, as antt computes it
 abbrev pub both : Bool → Bool → Bool
@@ -21,7 +21,7 @@ same f g zero = true
 same f g (suc n) = both (f n == g n) (same f g n)
 
 pub same_at : (f g : ℕ → ℕ) (n : ℕ) → T (same f g n) → (i : ℕ) → i < n → f i ≡ g i
-same_at f g zero t i p = absurd (omega arith)
+same_at f g zero t i p = absurd (not-suc-le-zero p)
 same_at f g (suc n) t i p = elim (eq-or-lt_of_le (le_of_suc-le-suc p)) [
   | inl e ↦ ap f e ∙ eqb→eq (f n) (g n) (both_left _ _ t) ∙ sym (ap g e)
   | inr l ↦ same_at f g n (both_right _ _ t) i l

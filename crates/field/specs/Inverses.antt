@@ -1,12 +1,12 @@
 -- Words modulo a polynomial that passes two tests are a field. Assumes nothing.
-use Rattle.std.specs.Prelude.{◌≡◌, ℕ, zero, suc, ◌+◌, ◌*◌, ◌/◌, ◌^◌, ◌<◌, ◌≤◌, List, ◌≢◌, bit_xor}
+use Rattle.std.specs.Prelude.{◌≡◌, ℕ, zero, suc, ◌+◌, ◌*◌, ◌/◌, ◌%◌, ◌^◌, ◌<◌, List, ◌≢◌, bit_xor}
 use Rattle.std.proofs.Math.Path.{refl, sym, ap}
-use Rattle.std.proofs.Common.{◌∙◌, ap₂, subst, arith}
+use Rattle.std.proofs.Common.{◌∙◌, ap₂, subst, zero-add, div-add-mod'}
 use Rattle.std.specs.Int.Bits.{xor_assoc, xor_self}
 use Rattle.field.specs.Polynomials.{product, squares, inverse}
 use Rattle.field.specs.Laws.{FieldLaws}
 use Rattle.field.specs.Linear.{Linear, linear_agree, combine, combine-xor}
-use Rattle.field.specs.ExclusiveOr.{xor-swap, xor_half, xor-twice}
+use Rattle.field.specs.ExclusiveOr.{xor-swap, xor_half, xor-twice, mod2-lt, not-two}
 use Rattle.field.specs.Products.{product_lt, product_comm, product_assoc, product-xor_l, product-xor_r, product_one_l, product_zero_r}
 
 -- a squared n times
@@ -72,7 +72,8 @@ module _ (h m low : ℕ) (top : m ≡ 1 * 2 ^ suc h + low) (low-lt : low < 2 ^ s
         ap (combine rows) (ap (λ x. bit_xor x a) e ∙ xor_self a) in
         let y : combine rows (bit_xor 0 0) ≡ 0 = combine-xor rows 0 0 ∙ xor_self (combine rows 0) in
         let k : a / 2 * 2 ≡ 0 = sym (kernels a p) ∙ z ∙ y in
-        omega arith
+        let r : a ≡ a % 2 = sym (div-add-mod' a 2) ∙ ap (λ x. x + a % 2) k ∙ zero-add (a % 2) in
+        subst (λ x. x < 2) (sym r) (mod2-lt a)
 
     pub inverse-lt : (a : ℕ) → a < 2 ^ suc h → inverse h m a < 2 ^ suc h
     unfolding inverse
@@ -94,7 +95,7 @@ module _ (h m low : ℕ) (top : m ≡ 1 * 2 ^ suc h + low) (low-lt : low < 2 ^ s
         go : (e : ℕ) → e < 2 → product h m a e ≡ a → e ≡ 1
         go zero q x = absurd (ne (sym x ∙ product_zero_r h m a))
         go (suc zero) q x = refl
-        go (suc (suc n)) q x = absurd (omega arith)
+        go (suc (suc n)) q x = absurd (not-two q)
 
     pub field : FieldLaws (suc h) (product h m) (inverse h m)
     field = record {

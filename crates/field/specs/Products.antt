@@ -1,13 +1,13 @@
 -- Products of words modulo a polynomial: linear, commutative, associative, of the same width. Assumes nothing.
-use Rattle.std.specs.Prelude.{◌≡◌, ℕ, zero, suc, ◌+◌, ◌-◌, ◌*◌, ◌/◌, ◌%◌, ◌^◌, ◌<◌, ◌≤◌, bit_xor}
+use Rattle.std.specs.Prelude.{◌≡◌, ℕ, zero, suc, ◌+◌, ◌*◌, ◌/◌, ◌%◌, ◌^◌, ◌<◌, ◌≤◌, bit_xor}
 use Rattle.std.proofs.Math.Path.{refl, sym, ap, ap₂}
-use Rattle.std.proofs.Common.{◌∙◌, subst, le_refl, mul-one, add-zero, div-lt_iff_lt-mul, zero-mul, one-mul, mod-lt}
-use Rattle.std.proofs.Math.Nat.{pow-succ', lt_of_lt_of_le, mul-zero, zero-div, zero-mod, pow-suc, div-eq_of_lt, div-add-mod', pow-le-pow_right}
-use native.Mathlib.Omega.{arith}
+use Rattle.std.proofs.Common.{◌∙◌, subst, le_refl, mul-one, div-lt_iff_lt-mul, zero-mul, zero-add, one-mul, mod-lt, le_of_suc-le-suc, lit<}
+use Rattle.std.proofs.Math.Nat.{pow-succ', lt_of_lt_of_le, mul-zero, zero-div, pow-suc, add-mul, mul_assoc, le_of_suc-le, mul-lt-mul_of_pos_right, div-eq_of_lt, div-add-mod', pow-le-pow_right}
+use Rattle.std.proofs.Math.Arith.{le-zero}
 use Rattle.std.proofs.Math.Pow.{pow_pos}
-use Rattle.std.specs.Int.Bits.{xor_assoc, xor_comm, xor_self, xor_zero_l, xor_zero_r, xor_lt, xor_block, xor_shifted}
-use Rattle.std.proofs.lemmas.Nat.{xor_shr, xor_mod}
-use Rattle.field.specs.ExclusiveOr.{bit_left, bit_right, mod2-lt, xor_half, xor_low, xor-swap, xor-twice}
+use Rattle.std.specs.Int.Bits.{xor_comm, xor_self, xor_zero_r, xor_lt, xor_block, xor_shifted}
+use Rattle.std.proofs.lemmas.Nat.{xor_shr}
+use Rattle.field.specs.ExclusiveOr.{bit_left, bit_right, mod2-lt, not-two, xor_half, xor_low, xor-swap, xor-twice}
 use Rattle.field.specs.Polynomials.{double, times, product}
 
 -- ---- the double is linear
@@ -23,13 +23,14 @@ module _ (h m : ℕ) where
 
   pub double_zero : double h m 0 ≡ 0
   unfolding double
-  double_zero = simp (zero-div, zero-mod, mul-zero)
+  double_zero =
+      ap₂ bit_xor (zero-mul 2) (ap (λ x. m * (x % 2)) (zero-div (2 ^ h)) ∙ mul-zero m) ∙ xor_self 0
 
   -- a word times a bit, doubled
   double-bit : (a x : ℕ) → x < 2 → double h m (a * x) ≡ double h m a * x
   double-bit a zero p = ap (double h m) (mul-zero a) ∙ double_zero ∙ sym (mul-zero _)
   double-bit a (suc zero) p = ap (double h m) (mul-one a) ∙ sym (mul-one _)
-  double-bit a (suc (suc x)) p = absurd (omega arith)
+  double-bit a (suc (suc x)) p = absurd (not-two p)
 
   pub times-xor_l : (k a b c : ℕ) → times h m k (bit_xor a b) c ≡ bit_xor (times h m k a c) (times h m k b c)
   unfolding times
@@ -61,7 +62,7 @@ module _ (h m : ℕ) where
   times-bit : (k a c x : ℕ) → x < 2 → times h m k (a * x) c ≡ times h m k a c * x
   times-bit k a c zero p = ap (λ y. times h m k y c) (mul-zero a) ∙ times_zero_l k c ∙ sym (mul-zero _)
   times-bit k a c (suc zero) p = ap (λ y. times h m k y c) (mul-one a) ∙ sym (mul-one _)
-  times-bit k a c (suc (suc x)) p = absurd (omega arith)
+  times-bit k a c (suc (suc x)) p = absurd (not-two p)
 
   pub times-double : (k a c : ℕ) → times h m k (double h m a) c ≡ double h m (times h m k a c)
   unfolding times
@@ -85,16 +86,16 @@ module _ (h m : ℕ) where
       ap (bit_xor (v * 2)) (ap (λ x. m * (x % 2)) (div-eq_of_lt p) ∙ mul-zero m) ∙ xor_zero_r (v * 2)
 
   half_lt : (b k : ℕ) → b < 2 ^ suc k → b / 2 < 2 ^ k
-  half_lt b k p = let q : b < 2 ^ k * 2 = subst (λ x. b < x) (pow-suc 2 k) p in omega arith
+  half_lt b k p = (div-lt_iff_lt-mul (lit< tt)).1 (subst (λ x. b < x) (pow-suc 2 k) p)
 
   one-times : (k b : ℕ) → k ≤ suc h → b < 2 ^ k → times h m k 1 b ≡ b
   unfolding times
-  one-times zero b q p = let z : b < 1 = p in omega arith
+  one-times zero b q p = sym (le-zero (le_of_suc-le-suc p))
   one-times (suc k) b q p =
       let r : b / 2 < 2 ^ k = half_lt b k p in
-      let u : k ≤ h = omega arith in
-      let t : b / 2 < 2 ^ h = lt_of_lt_of_le r (pow-le-pow_right {n = 2} (omega arith) u) in
-      let v : k ≤ suc h = omega arith in
+      let u : k ≤ h = le_of_suc-le-suc q in
+      let t : b / 2 < 2 ^ h = lt_of_lt_of_le r (pow-le-pow_right {n = 2} (lit< tt) u) in
+      let v : k ≤ suc h = le_of_suc-le q in
       ap₂ bit_xor (one-mul (b % 2)) (ap (double h m) (one-times k (b / 2) v r) ∙ double-low (b / 2) t)
       ∙ xor_comm (b % 2) (b / 2 * 2) ∙ xor_shifted (b / 2) 1 (b % 2) (mod2-lt b) ∙ div-add-mod' b 2
 
@@ -131,6 +132,9 @@ module _ (h m : ℕ) where
 
 -- the polynomial has degree h + 1
 module _ (h m low : ℕ) (top : m ≡ 1 * 2 ^ suc h + low) (low-lt : low < 2 ^ suc h) where
+  twice_lt : (r : ℕ) → r < 2 ^ h → r * 2 < 2 ^ suc h
+  twice_lt r p = subst (λ x. r * 2 < x) (sym (pow-suc 2 h)) (mul-lt-mul_of_pos_right p (lit< tt))
+
   pub double-lt : (v : ℕ) → v < 2 ^ suc h → double h m v < 2 ^ suc h
   unfolding double
   double-lt v p =
@@ -139,19 +143,27 @@ module _ (h m low : ℕ) (top : m ≡ 1 * 2 ^ suc h + low) (low-lt : low < 2 ^ s
       (mod-lt v (pow_pos h)) (sym (div-add-mod' v (2 ^ h)))
     where
       go : (q r : ℕ) → q < 2 → r < 2 ^ h → v ≡ q * 2 ^ h + r → bit_xor (v * 2) (m * (q % 2)) < 2 ^ suc h
-      go zero r a b c = simp (mul-zero, xor_zero_r) (omega (arith, pow-suc 2 h))
+      go zero r a b c =
+          let e : bit_xor (v * 2) (m * 0) ≡ r * 2 =
+          ap (bit_xor (v * 2)) (mul-zero m) ∙ xor_zero_r (v * 2)
+          ∙ ap (λ x. x * 2) (c ∙ ap (λ x. x + r) (zero-mul (2 ^ h)) ∙ zero-add r) in
+          subst (λ x. x < 2 ^ suc h) (sym e) (twice_lt r b)
       go (suc zero) r a b c =
-          let d : v * 2 ≡ 1 * 2 ^ suc h + r * 2 = omega (arith, pow-suc 2 h) in
-          let lt : r * 2 < 2 ^ suc h = omega (arith, pow-suc 2 h) in
+          let d : v * 2 ≡ 1 * 2 ^ suc h + r * 2 =
+          ap (λ x. x * 2) c ∙ add-mul (1 * 2 ^ h) r 2
+          ∙ ap (λ x. x + r * 2) (mul_assoc 1 (2 ^ h) 2 ∙ ap (λ x. 1 * x) (sym (pow-suc 2 h))) in
+          let lt : r * 2 < 2 ^ suc h = twice_lt r b in
           let e : bit_xor (v * 2) (m * 1) ≡ 0 * 2 ^ suc h + bit_xor (r * 2) low =
           ap₂ bit_xor d (mul-one m ∙ top) ∙ xor_block (suc h) 1 1 (r * 2) low lt low-lt in
-          omega (arith, xor_lt (suc h) (r * 2) low lt low-lt)
-      go (suc (suc q)) r a b c = absurd (omega arith)
+          let z : 0 * 2 ^ suc h + bit_xor (r * 2) low ≡ bit_xor (r * 2) low =
+          ap (λ x. x + bit_xor (r * 2) low) (zero-mul (2 ^ suc h)) ∙ zero-add (bit_xor (r * 2) low) in
+          subst (λ x. x < 2 ^ suc h) (sym (e ∙ z)) (xor_lt (suc h) (r * 2) low lt low-lt)
+      go (suc (suc q)) r a b c = absurd (not-two a)
 
   bit-lt : (a x k : ℕ) → x < 2 → a < 2 ^ k → a * x < 2 ^ k
   bit-lt a zero k p q = subst (λ y. y < 2 ^ k) (sym (mul-zero a)) (pow_pos k)
   bit-lt a (suc zero) k p q = subst (λ y. y < 2 ^ k) (sym (mul-one a)) q
-  bit-lt a (suc (suc x)) k p q = absurd (omega arith)
+  bit-lt a (suc (suc x)) k p q = absurd (not-two p)
 
   times-lt : (k a b : ℕ) → a < 2 ^ suc h → times h m k a b < 2 ^ suc h
   unfolding times

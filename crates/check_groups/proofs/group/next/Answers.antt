@@ -1,5 +1,5 @@
 use mathlib.Core.Path.{◌≡◌, ap, ap₂, ◌∙◌}
-use mathlib.Core.List.{List, ◌∷◌, []}
+use mathlib.Core.List.{◌∷◌, []}
 use Prim.Native.Nat.{ℕ, zero, suc, ◌/◌, ◌%◌, ◌^◌, ◌<◌}
 use native.Mathlib.Omega.{arith}
 use lib.Dec.{lit<}
@@ -37,13 +37,13 @@ returns c = at
     lt = lane-lt number number_lt (λ q. bit_xor (s q) (g q)) x_lt
 
     all : ℕ
-    all = bit_xor (bit_xor (bit_xor c.products-0.result c.products-1.result) c.products-2.result)
-        c.products-3.result
+    all = bit_xor (bit_xor (bit_xor c.products_0.result c.products_1.result) c.products_2.result)
+        c.products_3.result
 
     packed : all ≡ pack (l 0) (l 1) (l 2) (l 3)
     packed =
-        ap₂ bit_xor (ap₂ bit_xor (ap₂ bit_xor c.products-0.ensures c.products-1.ensures)
-        c.products-2.ensures) c.products-3.ensures
+        ap₂ bit_xor (ap₂ bit_xor (ap₂ bit_xor c.products_0.ensures c.products_1.ensures)
+        c.products_2.ensures) c.products_3.ensures
         ∙ joined number number_lt (λ q. bit_xor (s q) (g q)) x_lt
 
     at : (p : ℕ) → p < 4

@@ -1,4 +1,4 @@
-use mathlib.Core.Path.{◌≡◌, ap₂, ◌∙◌}
+use mathlib.Core.Path.{ap₂, ◌∙◌}
 use Prim.Native.Nat.{◌<◌, ◌^◌}
 use native.Mathlib.Omega.{arith}
 use lib.Dec.{lit<}
@@ -9,5 +9,5 @@ use Rattle.check_groups.proofs.group.products_1.Goals as goal
 pub returns : goal.returns
 returns c =
     let h : c.args.x < 2 ^ 16 = omega (arith, c.ranges.x) in
-    ap₂ bit_xor c.low-1.ensures c.high-1.ensures
+    ap₂ bit_xor c.low_1.ensures c.high_1.ensures
     ∙ by_bytes 0xA20D 0xD219 0xC218 0xB20D c.args.x (lit< tt) (lit< tt) (lit< tt) (lit< tt) h

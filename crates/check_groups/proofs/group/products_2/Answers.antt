@@ -1,4 +1,4 @@
-use mathlib.Core.Path.{◌≡◌, ap₂, ◌∙◌}
+use mathlib.Core.Path.{ap₂, ◌∙◌}
 use Prim.Native.Nat.{◌<◌, ◌^◌}
 use native.Mathlib.Omega.{arith}
 use lib.Dec.{lit<}
@@ -9,5 +9,5 @@ use Rattle.check_groups.proofs.group.products_2.Goals as goal
 pub returns : goal.returns
 returns c =
     let h : c.args.x < 2 ^ 16 = omega (arith, c.ranges.x) in
-    ap₂ bit_xor c.low-2.ensures c.high-2.ensures
+    ap₂ bit_xor c.low_2.ensures c.high_2.ensures
     ∙ by_bytes 0x6242 0xA1B4 0xEF9E 0x2C69 c.args.x (lit< tt) (lit< tt) (lit< tt) (lit< tt) h

@@ -1,4 +1,4 @@
-use Rattle.std.proofs.Common.{◌≡◌, ℕ, ◌+◌, ◌<◌, ◌≤◌, List, length, get_or, set, sym, refl, ap, ◌∙◌, subst, ap₂, arith, length-set, rules}
+use Rattle.std.proofs.Common.{◌+◌, ◌<◌, length, get_or, sym, refl, ap, ◌∙◌, subst, arith, length-set}
 use Rattle.codes.specs.Filling.{Blanked}
 use Rattle.codes.proofs.Blanking.{blank_none, blank_more, blank_skip}
 use Rattle.codes.proofs.column.blanked.Goals as goal

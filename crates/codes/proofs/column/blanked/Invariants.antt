@@ -1,4 +1,4 @@
-use Rattle.std.proofs.Common.{◌≡◌, length, get_or}
+use Rattle.std.proofs.Common.{◌≡◌, length}
 use Rattle.codes.specs.Filling.{Blanked}
 use Rattle.codes.proofs.column.blanked.Given as goal
 

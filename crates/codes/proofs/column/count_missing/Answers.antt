@@ -1,4 +1,4 @@
-use Rattle.std.proofs.Common.{◌≡◌, ℕ, ◌+◌, Bool, true, false, cond, get_or, sym, refl, ap, ◌∙◌, subst, ap₂, add-one, arith, rules}
+use Rattle.std.proofs.Common.{◌+◌, refl, ap, ◌∙◌, arith}
 use Rattle.codes.specs.Filling.{missing_count}
 use Rattle.codes.proofs.Blanking.{count_yes, count_no}
 use Rattle.codes.proofs.column.count_missing.Goals as goal

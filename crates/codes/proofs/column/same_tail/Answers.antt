@@ -1,4 +1,4 @@
-use Rattle.std.proofs.Common.{◌≡◌, ℕ, ◌<◌, ◌≤◌, length, get_or, sym, refl, ap, ◌∙◌, subst, ap₂, arith, rules}
+use Rattle.std.proofs.Common.{◌≡◌, ℕ, length, refl, arith, rules}
 use Rattle.codes.proofs.Parts.{tail_same, tail_at}
 use Rattle.codes.proofs.column.same_tail.Goals as goal
 

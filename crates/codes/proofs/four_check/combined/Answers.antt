@@ -1,4 +1,4 @@
-use Rattle.std.proofs.Common.{◌≡◌, get_or, sym, refl, ap, ◌∙◌, ap₂, add-one}
+use Rattle.std.proofs.Common.{get_or, sym, refl, ap, ◌∙◌, ap₂, add-one}
 use lib.Bits.{bit_xor}
 use Rattle.field.specs.Sums.{total}
 use Rattle.field.specs.Polynomials.{word_product}

@@ -1,6 +1,6 @@
-use Rattle.std.proofs.Common.{◌≡◌, ℕ, ◌+◌, ◌<◌, ◌≤◌, length, get_or, sym, ap, ◌∙◌, subst, arith, rules}
+use Rattle.std.proofs.Common.{◌≡◌, ◌+◌, ◌≤◌, length, get_or, sym, ap, ◌∙◌, subst, arith, rules}
 use lib.Bits.{bit_xor, xor_zero_r}
-use Rattle.codes.proofs.Patching.{Patched, Forced, patch_none, patch_more, patch-skip, patch_all}
+use Rattle.codes.proofs.Patching.{Patched, patch_none, patch_more, patch-skip, patch_all}
 use Rattle.codes.proofs.Solving.{differs_from}
 use Rattle.codes.proofs.solve.filled_in.Goals as goal
 use Rattle.codes.proofs.solve.filled_in.Goals.{then-marks-k, else-marks-k}
@@ -21,11 +21,11 @@ loop-k-preserved g c =
     elim c.if-marks-k.branch [
       | then-marks-k w ↦
           subst (λ t. Patched wide mul (16 + r) r c.args.blank c.args.marks (k + 1) t) (sym w.out-is)
-          (patch_more wide mul (16 + r) r c.args.blank c.args.marks k w.missing-word.result
+          (patch_more wide mul (16 + r) r c.args.blank c.args.marks k w.missing_word.result
           c.loop-k.out n20
           c.loop-k-test.true c.loop-k.invariant w.if-marks-k.true
           (λ few ws v ks.
-          sym (w.missing-word.ensures few _
+          sym (w.missing_word.ensures few _
           (differs_from wide mul _ (g.met.F.Field.lawful f) (g.met.F.Field.narrow f).0 (g.met.F.Field.apart f)
           (16 + r) r
           c.args.blank c.args.marks c.args.totals ws c.requires.fits c.requires.sums v ks)

@@ -1,4 +1,4 @@
-use Rattle.std.proofs.Common.{◌≡◌, ℕ, ◌+◌, ◌<◌, ◌≤◌, ◌⊎◌, List, get_or, sym, ap, ◌∙◌, subst, ap₂, subst₂, inl, inr, arith}
+use Rattle.std.proofs.Common.{◌≡◌, ℕ, ◌+◌, ◌≤◌, List, get_or, sym, ap, ◌∙◌, subst, subst₂, inl, inr, arith}
 use lib.Bits.{bit_xor}
 use Rattle.codes.proofs.Solving.{Held, held_start, held-skip, held-take, held_end}
 use Rattle.codes.proofs.solve.missing_word.Goals as goal

@@ -7,8 +7,8 @@ use Rattle.columns.proofs.make.check_all.Goals as goal
 pub loop-c-preserved : goal.loop-c-preserved
 loop-c-preserved g c =
     checks_more (g.K.CheckCode.code c.args.code.now) c.r-r.result c.r-r.ensures c.args.work.now
-    c.loop-c.work c.put-checks.new.work
-    c.check-words-checks.result c.loop-c.c (search rules)
-    (c.check-words-checks.ensures ∙ ap (check_four (g.K.CheckCode.code c.args.code.now))
-    c.data-words.ensures) c.loop-c.invariant.0 c.loop-c.invariant.1
-    c.put-checks.ensures.here c.put-checks.ensures.elsewhere c.put-checks.ensures.others
+    c.loop-c.work c.put_checks.new.work
+    c.check_words-checks.result c.loop-c.c (search rules)
+    (c.check_words-checks.ensures ∙ ap (check_four (g.K.CheckCode.code c.args.code.now))
+    c.data_words.ensures) c.loop-c.invariant.0 c.loop-c.invariant.1
+    c.put_checks.ensures.here c.put_checks.ensures.elsewhere c.put_checks.ensures.others

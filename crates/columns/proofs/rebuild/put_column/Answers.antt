@@ -1,5 +1,5 @@
 -- A column is written. Assumes nothing.
-use Rattle.std.proofs.Common.{◌≡◌, ℕ, ◌<◌, length, sym, ◌∙◌, arith, rules}
+use Rattle.std.proofs.Common.{◌≡◌, length, sym, arith, rules}
 use Rattle.columns.proofs.WordLaws.{column-made, column_same}
 use Rattle.columns.proofs.rebuild.put_column.Goals as goal
 

@@ -1,5 +1,5 @@
 -- One word more of a column. Assumes nothing.
-use Rattle.std.proofs.Common.{◌≡◌, ℕ, ◌<◌, ◌≢◌, length, get_or, ◌∙◌, arith, length-set, below_more}
+use Rattle.std.proofs.Common.{◌≢◌, ◌∙◌, arith, length-set, below_more}
 use Rattle.std.proofs.lemmas.List.{get_or-set_same, get_or-set_other}
 use Rattle.columns.proofs.WordLaws.{column-made}
 use Rattle.columns.proofs.words.column_at.Goals as goal

@@ -1,5 +1,5 @@
 -- The entries of a table, by one computed test. Written by tools/product_tables.py. Assumes nothing.
-use Rattle.std.proofs.Common.{◌≡◌, ℕ, ◌+◌, ◌*◌, ◌/◌, ◌%◌, ◌<◌, Bool, T, List, [], ◌∷◌, get_or, ap, ◌∙◌, ap₂, arith, rules}
+use Rattle.std.proofs.Common.{◌≡◌, ℕ, ◌+◌, ◌*◌, ◌/◌, ◌%◌, ◌<◌, Bool, List, [], ◌∷◌, get_or, ◌∙◌, ap₂, arith}
 use lib.Bits.{bit_xor}
 use Rattle.field.specs.Polynomials.{double, times, product, word_product, word_inverse}
 use Rattle.field.specs.Sums.{power}

@@ -1,4 +1,4 @@
-use Rattle.std.proofs.Common.{◌≡◌, ◌*◌, ◌/◌, ◌%◌, ◌<◌, sym, ap, ◌∙◌, subst, ap₂, arith, rules}
+use Rattle.std.proofs.Common.{◌≡◌, ◌*◌, ◌/◌, ◌%◌, ◌<◌, sym, ◌∙◌, subst, ap₂, arith}
 use lib.Bits.{bit_xor}
 use Rattle.field.specs.Polynomials.{times}
 use Rattle.field.proofs.Additive.{nibble-bytes, nibble-lt}
@@ -7,9 +7,9 @@ use Rattle.field.proofs.product.by_nibble.Goals as goal
 pub returns : goal.returns
 returns c =
     let low : c.from.result ≡ times 15 0 4 (c.args.a % 256) c.args.n = c.from.ensures
-    ∙ c.nibble-times-byte.ensures in
+    ∙ c.nibble_times_byte.ensures in
     let high : c.from-2.result ≡ times 15 0 4 (c.args.a / 256) c.args.n = c.from-2.ensures
-    ∙ c.nibble-times-byte-2.ensures in
+    ∙ c.nibble_times_byte-2.ensures in
     let e : bit_xor c.from.result (c.from-2.result * 256) ≡ times 15 0 4 c.args.a c.args.n =
     ap₂ (λ u v. bit_xor u (v * 256)) low high ∙ nibble-bytes c.args.a c.args.n in
     let h : c.args.a < 65536 = omega (arith, c.ranges.a) in

@@ -1,5 +1,5 @@
 -- The entries of a table, by one computed test. Written by tools/product_tables.py. Assumes nothing.
-use Rattle.std.proofs.Common.{◌≡◌, ℕ, ◌+◌, ◌*◌, ◌/◌, ◌%◌, ◌<◌, Bool, eqb, List, [], ◌∷◌, get_or, sym, ap, ◌∙◌, ap₂, arith, eqb→eq}
+use Rattle.std.proofs.Common.{ℕ, ◌<◌, Bool, eqb, List, [], ◌∷◌, get_or, arith, eqb→eq}
 use Rattle.field.specs.Polynomials.{double, times}
 use Rattle.field.specs.Computed.{at}
 use Rattle.field.proofs.tables.above_24.Goals as goal

@@ -6,28 +6,28 @@ use Rattle.codes.specs.BothSolve.{four_solves}
 use Rattle.codes.proofs.FilledCodes.{filled_code}
 use Rattle.codes.proofs.four_check.FourCheckCheckCode.fill.Goals as goal
 
-pub filled-in-requires : goal.filled-in-requires
-filled-in-requires c =
+pub filled_in-requires : goal.filled_in-requires
+filled_in-requires c =
     let fits : (k : ℕ) → k < 20 → get_or c.blanked-blank.result k 0 < 65536 = λ k h. search rules in
     record {
       few = lit≤ tt;
       fits = fits;
       zeros = c.blanked-blank.ensures.absent;
-      sums = c.four-sums.ensures;
+      sums = c.four_sums.ensures;
     }
 
 pub returns : goal.returns
 returns c =
-    let long : length c.filled-in.result ≡ 20 = search rules in
-    filled_code four_check c.args.column c.blanked-blank.result c.filled-in.result c.args.marks
+    let long : length c.filled_in.result ≡ 20 = search rules in
+    filled_code four_check c.args.column c.blanked-blank.result c.filled_in.result c.args.marks
     four_solves long
-    c.blanked-blank.ensures c.filled-in.ensures
+    c.blanked-blank.ensures c.filled_in.ensures
 
-pub returns-then-count-missing-eq0 : goal.returns-then-count-missing-eq0
-returns-then-count-missing-eq0 c =
+pub returns-then-count_missing-eq0 : goal.returns-then-count_missing-eq0
+returns-then-count_missing-eq0 c =
     let long : length c.blanked-blank.result ≡ 20 = search rules in
     filled_code four_check c.args.column c.blanked-blank.result c.blanked-blank.result c.args.marks
     four_solves long
     c.blanked-blank.ensures
-    (patch-whole 16 word_product 20 4 c.blanked-blank.result c.args.marks (sym c.count-missing.ensures
-    ∙ c.if-count-missing-eq0.true))
+    (patch-whole 16 word_product 20 4 c.blanked-blank.result c.args.marks (sym c.count_missing.ensures
+    ∙ c.if-count_missing-eq0.true))

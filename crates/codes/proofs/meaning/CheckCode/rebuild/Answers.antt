@@ -1,4 +1,4 @@
-use Rattle.std.proofs.Common.{◌≡◌, ℕ, ◌+◌, ◌-◌, ◌<◌, ◌≤◌, ◌++◌, length, get_or, take, drop, replicate, sym, refl, ap, ◌∙◌, subst, arith, rules}
+use Rattle.std.proofs.Common.{◌≡◌, ℕ, ◌+◌, ◌-◌, ◌<◌, ◌≤◌, ◌++◌, length, get_or, take, drop, replicate, refl, ap, ◌∙◌, subst, arith, rules}
 use Rattle.codes.specs.Filling.{missing_count}
 use Rattle.codes.specs.Agreeing.{all_words, fits_all}
 use Rattle.codes.proofs.Settling.{too_many, many-answered, the_column, column-answered, no-column, none-answered}
@@ -7,9 +7,9 @@ use Rattle.codes.proofs.meaning.CheckCode.rebuild.Goals as goal
 pub returns-then-count-r : goal.returns-then-count-r
 returns-then-count-r g c =
     let code = g.Self.CheckCode.code c.args.self.now in
-    let count = c.count-missing-count.result in
+    let count = c.count_missing-count.result in
     let e : count ≡ missing_count c.args.marks (16 + code.r) =
-    c.count-missing-count.ensures ∙ ap (λ m. missing_count c.args.marks (16 + m)) c.r-r.ensures in
+    c.count_missing-count.ensures ∙ ap (λ m. missing_count c.args.marks (16 + m)) c.r-r.ensures in
     let l : code.r < count = subst (λ m. m < count) c.r-r.ensures c.if-count-r.true in
     record {
       words = ap (λ a. a.0) (many-answered code c.args.column c.args.marks count e l);
@@ -17,19 +17,19 @@ returns-then-count-r g c =
       settles = too_many code c.args.column c.args.marks count e l;
     }
 
-pub returns-then-same-tail : goal.returns-then-same-tail
-returns-then-same-tail g c =
+pub returns-then-same_tail : goal.returns-then-same_tail
+returns-then-same_tail g c =
     let code = g.Self.CheckCode.code c.args.self.now in
     let out = c.fill-filled.result in
     let few : missing_count c.args.marks (16 + code.r) ≤ code.r =
     subst (λ m. missing_count c.args.marks (16 + m) ≤ m) c.r-r.ensures
-    (subst (λ k. k ≤ c.r-r.result) c.count-missing-count.ensures c.if-count-r.false) in
+    (subst (λ k. k ≤ c.r-r.result) c.count_missing-count.ensures c.if-count-r.false) in
     let small : (k : ℕ) → k < 20 → get_or out k 0 < 65536 = λ k h. search rules in
     let long : length out ≡ 20 = search rules in
-    let made : c.check-words-made.result ≡ code.checks (take 16 out) ++ replicate (4 - code.r) 0 =
-    c.check-words-made.ensures ∙ ap (λ t. code.checks t ++ replicate (4 - code.r) 0) c.front.ensures in
+    let made : c.check_words-made.result ≡ code.checks (take 16 out) ++ replicate (4 - code.r) 0 =
+    c.check_words-made.ensures ∙ ap (λ t. code.checks t ++ replicate (4 - code.r) 0) c.front.ensures in
     let r4 = (g.met.Self.CheckCode.lawful c.args.self.now).at_most_four in
-    let same = c.if-same-tail.ensures.0 refl in
+    let same = c.if-same_tail.ensures.0 refl in
     record {
       words = ap (λ a. a.0) (column-answered code c.args.column c.args.marks out r4 few
           c.fill-filled.ensures long small _ made same);
@@ -39,24 +39,24 @@ returns-then-same-tail g c =
           made same;
     }
 
-pub returns-else-same-tail : goal.returns-else-same-tail
-returns-else-same-tail g c =
+pub returns-else-same_tail : goal.returns-else-same_tail
+returns-else-same_tail g c =
     let code = g.Self.CheckCode.code c.args.self.now in
     let out = c.fill-filled.result in
     let few : missing_count c.args.marks (16 + code.r) ≤ code.r =
     subst (λ m. missing_count c.args.marks (16 + m) ≤ m) c.r-r.ensures
-    (subst (λ k. k ≤ c.r-r.result) c.count-missing-count.ensures c.if-count-r.false) in
+    (subst (λ k. k ≤ c.r-r.result) c.count_missing-count.ensures c.if-count-r.false) in
     let small : (k : ℕ) → k < 20 → get_or out k 0 < 65536 = λ k h. search rules in
     let length20 : length c.args.column ≡ 20 = search rules in
     let below : (k : ℕ) → k < 20 → get_or c.args.column k 0 < 65536 = λ k h. search rules in
     let fits = fits_all c.args.column
     (all_words c.args.column (λ i l. below i (subst (λ m. i < m) length20 l))) in
     let long : length out ≡ 20 = search rules in
-    let made : c.check-words-made.result ≡ code.checks (take 16 out) ++ replicate (4 - code.r) 0 =
-    c.check-words-made.ensures ∙ ap (λ t. code.checks t ++ replicate (4 - code.r) 0) c.front.ensures in
+    let made : c.check_words-made.result ≡ code.checks (take 16 out) ++ replicate (4 - code.r) 0 =
+    c.check_words-made.ensures ∙ ap (λ t. code.checks t ++ replicate (4 - code.r) 0) c.front.ensures in
     let r4 = (g.met.Self.CheckCode.lawful c.args.self.now).at_most_four in
-    let other : drop 16 out ≡ c.check-words-made.result → ⊥ =
-    λ e. let f = c.if-same-tail.ensures.1 e in absurd (let z : ◌≡◌ {A = ℕ} 0 1 = cc in omega arith) in
+    let other : drop 16 out ≡ c.check_words-made.result → ⊥ =
+    λ e. let f = c.if-same_tail.ensures.1 e in absurd (let z : ◌≡◌ {A = ℕ} 0 1 = cc in omega arith) in
     record {
       words = ap (λ a. a.0) (none-answered code c.args.column c.args.marks out r4 few
           c.fill-filled.ensures long small _ made fits other);

@@ -11,20 +11,20 @@ first-sum : (x : ℕ) (blank : List ℕ) → x ≡ weighted word_product 2 17 0 
 first-sum x blank e zero h = e
 first-sum x blank e (suc j) h = absurd (omega arith)
 
-pub filled-in-requires : goal.filled-in-requires
-filled-in-requires c =
+pub filled_in-requires : goal.filled_in-requires
+filled_in-requires c =
     let fits : (k : ℕ) → k < 17 → get_or c.blanked-blank.result k 0 < 65536 = λ k h. search rules in
     record {
       few = lit≤ tt;
       fits = fits;
       zeros = c.blanked-blank.ensures.absent;
-      sums = first-sum c.xor-column.result c.blanked-blank.result (c.xor-column.ensures
+      sums = first-sum c.xor_column.result c.blanked-blank.result (c.xor_column.ensures
           ∙ sym (plain-sum 17 (λ i. get_or c.blanked-blank.result i 0) fits));
     }
 
 pub returns : goal.returns
 returns c =
-    let long : length c.filled-in.result ≡ 20 = search rules in
-    filled_code parity c.args.column c.blanked-blank.result c.filled-in.result c.args.marks
+    let long : length c.filled_in.result ≡ 20 = search rules in
+    filled_code parity c.args.column c.blanked-blank.result c.filled_in.result c.args.marks
     parity_solves long
-    c.blanked-blank.ensures c.filled-in.ensures
+    c.blanked-blank.ensures c.filled_in.ensures
