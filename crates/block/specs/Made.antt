@@ -1,10 +1,10 @@
 -- The control fields of the three kinds of block that are made. Assumes nothing.
 --
 --   control1_with format kind mark object sequence entities back  Control Field 1 with these fields, and 0 in every other
---   data_control h                                                Control Field 1 of a data block
---   check_control entities back Control Field 1 of a check block
---   end_control back                                              Control Field 1 of an end block
---   end_place place envelope tag                                  Control Field 2 of an end block
+--   data_control h               Control Field 1 of a data block
+--   check_control entities back  Control Field 1 of a check block
+--   end_control back             Control Field 1 of an end block
+--   end_place place envelope tag  Control Field 2 of an end block
 use Rattle.std.specs.Prelude.{ℕ, false}
 use Rattle.block.specs.declared.control.Control1.{Control1}
 use Rattle.block.specs.declared.control.Control2.{Control2}

@@ -1,12 +1,12 @@
 -- What each call of a card answers and leaves, from the contents before it. Assumes nothing.
 --
---   kind_of x                what a get answers of the content x
---   judged_place P p         2 and the place, unless p is one of P places
---   judged n P p            1 and the length, unless a buffer has the n bytes of a block; then as judged_place
---   if_granted a new old     new if the answer a grants, old if it refuses
---   get_answer, get_buffer    what get answers, and what its buffer then holds
---   put_answer, put_contents  what put answers, and what the places then hold
---   strike_answer, strike_contents   the same of strike
+--   kind_of x                    what a get answers of the content x
+--   judged_place P p             2 and the place, unless p is one of P places
+--   judged n P p                 1 and the length, unless a buffer has the n bytes of a block; then as judged_place
+--   if_granted a new old         new if the answer a grants, old if it refuses
+--   get_answer, get_buffer       what get answers, and what its buffer then holds
+--   put_answer, put_contents     what put answers, and what the places then hold
+--   strike_answer, strike_contents  the same of strike
 use Rattle.std.specs.Prelude.{ℕ, cond, List, [], ◌∷◌, length, Ok, Err, ◌==◌, nat_lt, slice_set}
 use Rattle.refusal.specs.Tells.{Answer, and_then}
 use Rattle.cards.specs.declared.Kind.{Kind}

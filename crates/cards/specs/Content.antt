@@ -1,10 +1,10 @@
 -- What a card means: the content of each of its places. Assumes nothing.
 --
 --   block_len        the bytes of a block
---   Content         what a place holds: blank, lost, or a block's bytes
+--   Content          what a place holds: blank, lost, or a block's bytes
 --   content_at cs p  the content of place p, where the places 0, 1, 2 and on hold cs; lost where there is no such place
 --   bytes_of x       what a get of the content x leaves in the buffer
---   Whole cs        no place has a block of another length
+--   Whole cs         no place has a block of another length
 use Rattle.std.specs.Prelude.{◌≡◌, ℕ, List, length, replicate, slice_index_or}
 
 abbrev pub block_len : ℕ

@@ -1,8 +1,8 @@
 -- What a put and a strike leave alone, on any card and in a memory. Assumes nothing.
 --
---   OnePlace cs after p   the places are as many as before, and every place but p holds what it held
---   ChangesOnePlace     a put or a strike changes its own place at most; one that is granted changes it as it should
---   KeepsTheRest        a put changes no byte of a memory but those of its row; a strike none but those of its mark
+--   OnePlace cs after p  the places are as many as before, and every place but p holds what it held
+--   ChangesOnePlace      a put or a strike changes its own place at most; one that is granted changes it as it should
+--   KeepsTheRest         a put changes no byte of a memory but those of its row; a strike none but those of its mark
 use Rattle.std.specs.Prelude.{◌≡◌, ℕ, ◌+◌, ◌*◌, ◌<◌, ◌≤◌, ◌⊎◌, List, length, Ok, ◌≢◌, slice_index}
 use Rattle.cards.specs.Content.{Content, block, lost, content_at}
 use Rattle.cards.specs.Calls.{put_answer, put_contents, strike_answer, strike_contents}

@@ -1,14 +1,14 @@
 -- How places lie in a memory: rows of 8,258 bytes, each a mark of two bytes and then a block. Assumes nothing.
 --
---   row_len, row_count mem   the bytes of a row, and the whole rows of a memory; bytes behind the last one mean nothing
---   block_mark, blank_mark, struck_mark   the marks of a block, of a blank place, and the one that a strike writes
---   mark_kind mark      what a mark means: every mark but those of block and blank means lost
---   row_at mem i        the content of row i: its mark decides, and a block's bytes stand behind it
---   rows mem           the contents of all rows
---   laid xs at ys      xs with ys laid over it from index `at` on
---   stored mem i bs    the memory after a block is written to row i
---   struck mem i       the memory after row i is struck: its block bytes stay
---   put_memory, strike_memory   the memory after a put or a strike at a place, granted or refused
+--   row_len, row_count mem       the bytes of a row, and the whole rows of a memory; bytes behind the last one mean nothing
+--   block_mark, blank_mark, struck_mark  the marks of a block, of a blank place, and the one that a strike writes
+--   mark_kind mark               what a mark means: every mark but those of block and blank means lost
+--   row_at mem i                 the content of row i: its mark decides, and a block's bytes stand behind it
+--   rows mem                     the contents of all rows
+--   laid xs at ys                xs with ys laid over it from index `at` on
+--   stored mem i bs              the memory after a block is written to row i
+--   struck mem i                 the memory after row i is struck: its block bytes stay
+--   put_memory, strike_memory    the memory after a put or a strike at a place, granted or refused
 use Rattle.std.specs.Prelude.{ℕ, ◌+◌, ◌*◌, ◌/◌, Bool, cond, ◌&&◌, List, [], ◌∷◌, ◌++◌, map, length, take, drop, ◌==◌, slice_index}
 use Rattle.std.specs.List.{range_with_len}
 use Rattle.cards.specs.declared.Kind.{Kind}

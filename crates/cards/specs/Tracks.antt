@@ -1,9 +1,9 @@
 -- Places dealt out in turn to four memories. Assumes nothing.
 --
---   shortest ms     as many rows as the shortest of four memories has
---   dealt ms        the contents of the places: place i is row i / 4 of memory i % 4
---   on_track ms p f  the memories, with that of place p changed by f at its row
---   put_memories, strike_memories   the memories after a put or a strike at a place, granted or refused
+--   shortest ms                  as many rows as the shortest of four memories has
+--   dealt ms                     the contents of the places: place i is row i / 4 of memory i % 4
+--   on_track ms p f              the memories, with that of place p changed by f at its row
+--   put_memories, strike_memories  the memories after a put or a strike at a place, granted or refused
 use Rattle.std.specs.Prelude.{ℕ, ◌*◌, ◌/◌, ◌%◌, min, List, [], map, length, slice_index_or, slice_set}
 use Rattle.std.specs.List.{range_with_len}
 use Rattle.cards.specs.Content.{Content}

@@ -2,7 +2,7 @@
 --
 --   numbers p         by what each word of a group goes into check word p behind it
 --   number p q        by what word q of a group does
---   next_word s g p    check word p behind a group g, if the check words before it are s
+--   next_word s g p   check word p behind a group g, if the check words before it are s
 --   four a b c d x    the products of x with four numbers, in one number of sixteen bits each
 use Rattle.std.specs.Prelude.{ℕ, zero, suc, ◌+◌, ◌*◌, ◌^◌, List, [], ◌∷◌, get_or}
 use Rattle.std.specs.Int.Bits.{bit_xor}

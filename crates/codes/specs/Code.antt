@@ -3,7 +3,7 @@
 --   AllWords ws         every number of the list is a two-byte word
 --   differences us ws   at how many positions two columns differ
 --   Code                the meaning of a code: r, and the check words of any sixteen words
---   check_four code ws   the check words of ws, and zeros up to four
+--   check_four code ws  the check words of ws, and zeros up to four
 --   Right code ws       ws is a column of 16 + r words with right check words
 --   Lawful code         what is asked of a code
 use Rattle.std.specs.Prelude.{◌≡◌, ℕ, ◌+◌, ◌-◌, ◌<◌, ◌≤◌, cond, List, [], ◌∷◌, ◌++◌, length, take, drop, replicate, ◌==◌}

@@ -1,13 +1,13 @@
 -- Missing words filled in, by position. Assumes nothing.
 --
---   missing_count marks n            how many of the positions below n are marked missing
---   Keeps ws column marks n         ws has the column's word at each position below n that is not missing
---   Filled code column marks out    out is the column if there is a right one at all
---   Blanked column marks n out      the column with zeros at what is missing and from n on
---   Vanishes w mul n r ws           n words of w bits whose first r sums are 0
---   FilledBySums ..                 out is the column of zero sums if there is one at all
---   Differs ..                      words at the missing positions that have these sums
---   SumsOf, FillsIn, MissingWord, taken_out   the same over the arithmetic of a field
+--   missing_count marks n        how many of the positions below n are marked missing
+--   Keeps ws column marks n      ws has the column's word at each position below n that is not missing
+--   Filled code column marks out  out is the column if there is a right one at all
+--   Blanked column marks n out   the column with zeros at what is missing and from n on
+--   Vanishes w mul n r ws        n words of w bits whose first r sums are 0
+--   FilledBySums ..              out is the column of zero sums if there is one at all
+--   Differs ..                   words at the missing positions that have these sums
+--   SumsOf, FillsIn, MissingWord, taken_out  the same over the arithmetic of a field
 use Rattle.std.specs.Prelude.{◌≡◌, ℕ, zero, suc, ◌+◌, ◌-◌, ◌^◌, ◌<◌, ◌≤◌, Bool, true, false, cond, List, length, take, drop, replicate, bit_xor, slice_index, slice_index_or}
 use Rattle.field.specs.Laws.{Arithmetic}
 use Rattle.field.specs.Sums.{weighted}

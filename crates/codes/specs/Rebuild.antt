@@ -1,14 +1,14 @@
 -- What rebuild answers. Assumes nothing.
 --
---   present n column marks   the first n words of a column, none where one is marked missing
---   seen code column marks   what a code reads of a column
---   missing c                how many words are missing
---   Agrees c ws              ws has the words that are present, and some two-byte word for each that is missing
---   fillings c               every column that agrees
---   rebuild code c           the right column that agrees, if there is one
---   answered code c          the twenty words and the flag that rebuild answers
---   rebuilt code column marks          the same, of a column and its marks
---   Settles code column marks answer   the law of an answer: right, agreeing and the only one; or refused for cause
+--   present n column marks       the first n words of a column, none where one is marked missing
+--   seen code column marks       what a code reads of a column
+--   missing c                    how many words are missing
+--   Agrees c ws                  ws has the words that are present, and some two-byte word for each that is missing
+--   fillings c                   every column that agrees
+--   rebuild code c               the right column that agrees, if there is one
+--   answered code c              the twenty words and the flag that rebuild answers
+--   rebuilt code column marks    the same, of a column and its marks
+--   Settles code column marks answer  the law of an answer: right, agreeing and the only one; or refused for cause
 use Rattle.std.specs.Prelude.{◌≡◌, ℕ, zero, suc, ◌+◌, ◌-◌, ◌<◌, ◌≤◌, Bool, true, false, cond, ◌&&◌, List, [], ◌∷◌, ◌++◌, map, take, drop, replicate, Ok, Err, ◌==◌, nat_lt, slice_index, slice_index_or}
 use Rattle.std.proofs.Math.Option.{Option, some, none}
 use Rattle.std.specs.List.{range_with_len}

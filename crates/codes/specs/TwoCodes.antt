@@ -1,11 +1,11 @@
 -- The parity code and the four-check code. Assumes nothing.
 --
---   sum j ws          the sum over the positions i of ws of a ^ (i * j) times word i, where a is 0002h
+--   sum j ws           the sum over the positions i of ws of a ^ (i * j) times word i, where a is 0002h
 --   zero_sums r ws     the sums for j below r are all 0, as a test
---   SumsAreZero     the same, as a fact
+--   SumsAreZero        the same, as a fact
 --   by_sums r ws       the r words that make the sums for j below r zero, if they are put behind the words ws
 --   parity, four_check the two codes
---   SumsMakeRight   the right columns of a code are those whose sums are 0
+--   SumsMakeRight      the right columns of a code are those whose sums are 0
 use Rattle.std.specs.Prelude.{◌≡◌, ℕ, zero, suc, ◌+◌, ◌<◌, Bool, true, ◌&&◌, List, [], ◌∷◌, ◌++◌, map, length, drop, replicate, ◌==◌, slice_index}
 use Rattle.std.proofs.Math.Option.{Option, some, none}
 use Rattle.field.specs.Polynomials.{word_product}

@@ -2,13 +2,13 @@
 --
 --   work_len               the bytes of a work area; judged_work n refuses another number with 1
 --   word_at work i c       word c of the block at position i: two bytes, the low one first
---   column work c         word c of each of the twenty positions: data blocks 0 to 15, check blocks from 16 on
+--   column work c          word c of each of the twenty positions: data blocks 0 to 15, check blocks from 16 on
 --   is_check r q           byte q of a work area is under a check word
 --   check_at code work j c the check word j of column c
 --   right_column           the right column for column c, if there is one, where some positions are marked missing
---   Done                  each column below m is rebuilt, and each from m on is as it was
---   Rebuilds              all columns are rebuilt, or the first that has no right one is named
---   RebuildsAll           the same, with what is refused before
+--   Done                   each column below m is rebuilt, and each from m on is as it was
+--   Rebuilds               all columns are rebuilt, or the first that has no right one is named
+--   RebuildsAll            the same, with what is refused before
 use Rattle.std.specs.Prelude.{◌≡◌, ℕ, ◌+◌, ◌-◌, ◌*◌, ◌/◌, ◌%◌, ◌<◌, ◌≤◌, Bool, true, false, cond, ◌&&◌, List, [], ◌∷◌, ◌++◌, map, length, take, replicate, Ok, Err, ◌==◌, nat_le, nat_lt, slice_index}
 use Rattle.std.proofs.Math.Option.{Option, some, none}
 use Rattle.std.specs.List.{range_with_len}

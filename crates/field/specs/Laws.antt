@@ -2,10 +2,10 @@
 --
 --   Arithmetic            the meaning of a field: the width of its words, its product and its inverse
 --   FieldLaws w mul inv   what makes a field of the words of w bits
---   PowersDiffer ..      the first n powers of a word differ from each other
+--   PowersDiffer ..       the first n powers of a word differ from each other
 --   IsField F             the arithmetic F is that of a field
---   point_of F i           2 to the power i, the point of position i of a column
---   gap_of F i k           the inverse of the difference of two points
+--   point_of F i          2 to the power i, the point of position i of a column
+--   gap_of F i k          the inverse of the difference of two points
 use Rattle.std.specs.Prelude.{◌≡◌, ℕ, ◌^◌, ◌<◌, ◌≢◌, bit_xor}
 use Rattle.field.specs.Sums.{power}
 

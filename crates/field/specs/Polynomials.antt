@@ -4,13 +4,13 @@
 -- h + 1, so that m = 1100Bh with h = 15 gives words of two bytes, and m = 11Dh with h = 7 bytes. The sum of words is
 -- exclusive-or.
 --
---   double h m v      x times the word v, modulo m
---   times h m k a b   a times the lowest k bits of b, modulo m
---   product h m a b   a times b, modulo m
---   squares h m n b   b times its square times the square of that, n factors in all
---   inverse h m a     a to the power 2 ^ (h + 1) - 2
---   word_product, word_inverse, word_field   the field of two-byte words
---   stands_for v       the two-byte word of a polynomial of up to 32 bits
+--   double h m v                 x times the word v, modulo m
+--   times h m k a b              a times the lowest k bits of b, modulo m
+--   product h m a b              a times b, modulo m
+--   squares h m n b              b times its square times the square of that, n factors in all
+--   inverse h m a                a to the power 2 ^ (h + 1) - 2
+--   word_product, word_inverse, word_field  the field of two-byte words
+--   stands_for v                 the two-byte word of a polynomial of up to 32 bits
 use Rattle.std.specs.Prelude.{ℕ, zero, suc, ◌*◌, ◌/◌, ◌%◌, ◌^◌, bit_xor}
 use Rattle.field.specs.Laws.{Arithmetic}
 

@@ -1,10 +1,10 @@
 -- How the objects of a write are packed into data blocks, page by page. Assumes nothing.
 --
 --   data_page, mark_page, filler_page  the three kinds of page
---   onto pg bs                         the page pg before the pages of the first of the blocks bs
---   pack                               the blocks that some objects still need
---   packed ls                          the data blocks of the objects with the lengths ls
---   plan ls                            the same, with the block that a last entity of one data block gets added
+--   onto pg bs                   the page pg before the pages of the first of the blocks bs
+--   pack                         the blocks that some objects still need
+--   packed ls                    the data blocks of the objects with the lengths ls
+--   plan ls                      the same, with the block that a last entity of one data block gets added
 use Rattle.std.specs.Prelude.{ℕ, zero, suc, ◌+◌, ◌-◌, ◌*◌, ◌%◌, Bool, true, false, cond, List, [], ◌∷◌, ◌++◌, length, ◌==◌, nat_le, slice_index}
 use Rattle.bits.specs.Fields.{sum}
 use Rattle.plan.specs.declared.page.PlannedPage.{PlannedPage}

@@ -1,14 +1,14 @@
 -- Runs of places: what is put at several places in a row, and what is got from them. Assumes nothing.
 --
---   block_at bytes i      block i of bytes in which blocks stand joined
---   blocks bytes n       the first n of them, as contents
---   judged_block m        1 and the length m, unless it is that of a block
---   judged_blocks m       1 and the length m, unless it is that of whole blocks
---   judged_run P s n      2 and the first place that is lacking, unless the n places from s on are among P places
---   copies_answer, copies_contents   what is answered, and what the places then hold, for n copies of a block from s on
---   run_answer, run_contents         the same for all blocks of some bytes, from s on
---   run_bytes cs s n      what n gets from place s on give, joined; a place that is not there gives zeros
---   run_buffer cs s buf   what a buffer holds after its blocks are got from the places from s on
+--   block_at bytes i             block i of bytes in which blocks stand joined
+--   blocks bytes n               the first n of them, as contents
+--   judged_block m               1 and the length m, unless it is that of a block
+--   judged_blocks m              1 and the length m, unless it is that of whole blocks
+--   judged_run P s n             2 and the first place that is lacking, unless the n places from s on are among P places
+--   copies_answer, copies_contents  what is answered, and what the places then hold, for n copies of a block from s on
+--   run_answer, run_contents     the same for all blocks of some bytes, from s on
+--   run_bytes cs s n             what n gets from place s on give, joined; a place that is not there gives zeros
+--   run_buffer cs s buf          what a buffer holds after its blocks are got from the places from s on
 use Rattle.std.specs.Prelude.{ℕ, ◌+◌, ◌*◌, ◌/◌, ◌%◌, max, cond, List, [], ◌∷◌, map, length, take, drop, replicate, Ok, Err, ◌==◌, nat_le}
 use Rattle.std.specs.List.{range_with_len, flat_map}
 use Rattle.refusal.specs.Tells.{Answer, and_then}

@@ -4,8 +4,8 @@
 --   good_entry P bad i   whether entry i is below P and above the entry before it
 --   judged_at P bad is   7 and the first of the indices `is` whose entry is not good
 --   list_answer P bad    7 and 64 for a list that is too long, then as judged_at for its indices from 0 on
---   Lawful P bad        the list names at most 64 places, strictly rising and below P
---   GrantsLawfulLists   exactly the lawful lists are granted
+--   Lawful P bad         the list names at most 64 places, strictly rising and below P
+--   GrantsLawfulLists    exactly the lawful lists are granted
 use Rattle.std.specs.Prelude.{◌≡◌, ℕ, ◌+◌, ◌-◌, ◌<◌, ◌≤◌, Bool, cond, ◌&&◌, ◌||◌, List, [], ◌∷◌, length, Ok, Err, ◌==◌, nat_lt, slice_index}
 use Rattle.std.specs.List.{range_with_len}
 use Rattle.refusal.specs.Tells.{Answer}

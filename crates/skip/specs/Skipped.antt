@@ -1,13 +1,13 @@
 -- The places of a card that a list of bad places leaves. Assumes nothing.
 --
---   listed p bad        whether the list names place p
---   unlisted_from bad p n   those of the n places from p on that the list does not name, in order
---   spared bad cs       the contents of the places that the list does not name, in order
---   stepped_over b p     place p, or the next one if the bad place b is p or lies below it
---   unlisted bad p      place p, moved up over the bad places one by one
---   skipped bad cs      the contents that are found so, as many as there are places more than bad ones
---   put_below, strike_below   the contents of the card below after a put or a strike above it, granted or refused
---   SkipsTheListed    for a lawful list these are the contents of the unlisted places, in order, and all that is left
+--   listed p bad             whether the list names place p
+--   unlisted_from bad p n    those of the n places from p on that the list does not name, in order
+--   spared bad cs            the contents of the places that the list does not name, in order
+--   stepped_over b p         place p, or the next one if the bad place b is p or lies below it
+--   unlisted bad p           place p, moved up over the bad places one by one
+--   skipped bad cs           the contents that are found so, as many as there are places more than bad ones
+--   put_below, strike_below  the contents of the card below after a put or a strike above it, granted or refused
+--   SkipsTheListed           for a lawful list these are the contents of the unlisted places, in order, and all that is left
 use Rattle.std.specs.Prelude.{◌≡◌, ℕ, zero, suc, ◌+◌, ◌-◌, Bool, false, cond, ◌||◌, List, [], ◌∷◌, map, length, ◌==◌, nat_le, slice_set}
 use Rattle.std.specs.List.{range_with_len}
 use Rattle.cards.specs.Content.{Content, block, lost, content_at}
