@@ -66,9 +66,8 @@ for q in range(4):
     four = [ROWS[p][q] for p in range(4)]
     rule = 'four ' + ' '.join('0x%04X' % c for c in four)
     source = f'''// Products of word {q} of a group, by its bytes. Written by tools/group_tables.py.
-ghost use mathlib.Core.Path.{{_≡_}};
-ghost use Prim.Native.Nat.{{_*_}};
-ghost use Rattle·check_groups·specs.Groups.{{four}};
+ghost use Rattle.std.specs.Prelude.{{◌≡◌, ◌*◌}};
+ghost use Rattle.check_groups.specs.Groups.{{four}};
 '''
     for name, shift in (('low', 1), ('high', 256)):
         entries = [sum(product(c, x * shift) << (16 * p) for p, c in enumerate(four)) for x in range(256)]
@@ -76,7 +75,7 @@ ghost use Rattle·check_groups·specs.Groups.{{four}};
         source += f'\nconst {table}: [u64; 256] = [\n' + ''.join(f'    0x{e:016X},\n' for e in entries) + f'''];
 
 pub fn {name}_{q}(x: u8) -> u64
-    ensures {{ λ r. ⌜ r ≡ {rule} (x * {shift}) ⌝ }}
+    ensures {{ result ≡ {rule} (x * {shift}) }}
 {{
     {table}[x as usize]
 }}
@@ -84,14 +83,14 @@ pub fn {name}_{q}(x: u8) -> u64
         write(f'proofs/word_{q}/{name}_{q}/Answers.antt', f'''-- The entries of a table, by one computed test. Written by tools/group_tables.py. Assumes nothing.
 use native.Mathlib.Omega.{{arith}}
 use mathlib.Core.Bool.{{Bool}}
-use mathlib.Core.List.{{List, [], _∷_}}
-use Prim.Native.Nat.{{ℕ, _*_, _<_}}
+use mathlib.Core.List.{{List, [], ◌∷◌}}
+use Prim.Native.Nat.{{ℕ, ◌*◌, ◌<◌}}
 use lib.Dec.{{eqb, eqb→eq}}
-use lib.ListN.{{getD}}
-use Rattle·field.specs.Polynomials.{{double, times, product, wordProduct}}
-use Rattle·check_groups·specs.Groups.{{four}}
-use Rattle·field.proofs.Computed.{{at}}
-use Rattle·check_groups·proofs.word_{q}.{name}_{q}.Needs as need
+use lib.ListN.{{get_or}}
+use Rattle.field.specs.Polynomials.{{double, times, product, word_product}}
+use Rattle.check_groups.specs.Groups.{{four}}
+use Rattle.field.specs.Computed.{{at}}
+use Rattle.check_groups.proofs.word_{q}.{name}_{q}.Goals as goal
 
 entries : List ℕ
 entries =
@@ -100,11 +99,11 @@ entries =
 right : ℕ → ℕ → Bool
 right k e = eqb e ({rule} (k * {shift}))
 
-pub returns : need.returns
-unfolding entries right wordProduct product times double
+pub returns : goal.returns
+unfolding entries right word_product product times double
 returns c =
-    let h : c .args .x < 256 = omega (arith, c .fits .x) in
-    eqb→eq (getD entries (c .args .x) 0) ({rule} (c .args .x * {shift}))
-        (at right entries tt (c .args .x) h)
+    let h : c.args.x < 256 = omega (arith, c.ranges.x) in
+    eqb→eq (get_or entries c.args.x 0) ({rule} (c.args.x * {shift}))
+    (at right entries tt c.args.x h)
 ''')
     write(f'src/word_{q}.rt', source)

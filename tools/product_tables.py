@@ -41,16 +41,12 @@ def write(path, text):
 
 
 HEAD = '''-- The entries of a table, by one computed test. Written by tools/product_tables.py. Assumes nothing.
-use mathlib.Core.Bool.{Bool}
-use mathlib.Core.List.{List, [], _∷_}
-use mathlib.Core.Path.{_≡_, _∙_, ap, ap₂, sym}
-use Prim.Native.Nat.{ℕ, _+_, _*_, _/_, _%_, _<_}
-use native.Mathlib.Omega.{arith}
-use lib.Dec.{eqb, eqb→eq}
-use lib.ListN.{getD}
-use Rattle·field·specs.Polynomials.{double, times}
-use Rattle·field·proofs.Computed.{at}
+use Rattle.std.proofs.Common.{WORDS}
+use Rattle.field.specs.Polynomials.{double, times}
+use Rattle.field.specs.Computed.{at}
 '''
+NIBBLE_WORDS = '◌≡◌, ℕ, ◌+◌, ◌*◌, ◌/◌, ◌%◌, ◌<◌, Bool, eqb, List, [], ◌∷◌, get_or, ◌∙◌, ap₂, arith, eqb→eq'
+ABOVE_WORDS = 'ℕ, ◌<◌, Bool, eqb, List, [], ◌∷◌, get_or, arith, eqb→eq'
 
 
 def list_of(entries):
@@ -60,9 +56,8 @@ def list_of(entries):
 nibbles = [unreduced(k % 256, k // 256) for k in range(4096)]
 above = {16: [reduced(x << 16) for x in range(256)], 24: [reduced(x << 24) for x in range(256)]}
 source = '''// Tables for products of two-byte words. Written by tools/product_tables.py.
-ghost use mathlib.Core.Path.{_≡_};
-ghost use Prim.Native.Nat.{_<_};
-ghost use Rattle·field·specs.Polynomials.{times};
+ghost use Rattle.std.specs.Prelude.{◌≡◌, ◌<◌};
+ghost use Rattle.field.specs.Polynomials.{times};
 
 const NIBBLES: [u16; 4096] = [
 ''' + wrapped(['0x%03X' % e for e in nibbles], ', ', '    ') + ''',
@@ -70,27 +65,27 @@ const NIBBLES: [u16; 4096] = [
 
 // A byte times four bits, with nothing reduced.
 pub fn nibble_times_byte(n: u16, y: u16) -> u16
-    requires { ⌜ n < 16 ⌝ ∗ ⌜ y < 256 ⌝ }
-    ensures { λ r. ⌜ r ≡ times 15 0 4 y n ⌝ }
+    requires { (n < 16) × (y < 256) }
+    ensures { result ≡ times 15 0 4 y n }
 {
     NIBBLES[(256 * n + y) as usize]
 }
 '''
-write('proofs/tables/nibble_times_byte/Answers.antt', HEAD + '''use Rattle·field·proofs.tables.nibble_times_byte.Needs as need
+write('proofs/tables/nibble_times_byte/Answers.antt', HEAD.replace('WORDS', NIBBLE_WORDS) + '''use Rattle.field.proofs.tables.nibble_times_byte.Goals as goal
 
 ''' + list_of(nibbles) + '''
 right : ℕ → ℕ → Bool
 right k e = eqb e (times 15 0 4 (k % 256) (k / 256))
 
-pub returns : need.returns
+pub returns : goal.returns
 unfolding entries right times double
 returns c =
-    let k : ℕ = 256 * c .args .n + c .args .y in
-    let h : 256 * c .args .n + c .args .y < 4096 = omega (arith, c .pre) in
-    let y : (256 * c .args .n + c .args .y) % 256 ≡ c .args .y = omega (arith, c .pre) in
-    let n : (256 * c .args .n + c .args .y) / 256 ≡ c .args .n = omega (arith, c .pre) in
-    eqb→eq (getD entries k 0) (times 15 0 4 (k % 256) (k / 256)) (at right entries tt k h)
-        ∙ ap₂ (λ u v. times 15 0 4 u v) y n
+    let k : ℕ = 256 * c.args.n + c.args.y in
+    let h : 256 * c.args.n + c.args.y < 4096 = omega (arith, c.requires) in
+    let y : (256 * c.args.n + c.args.y) % 256 ≡ c.args.y = omega (arith, c.requires) in
+    let n : (256 * c.args.n + c.args.y) / 256 ≡ c.args.n = omega (arith, c.requires) in
+    eqb→eq (get_or entries k 0) (times 15 0 4 (k % 256) (k / 256)) (at right entries tt k h)
+    ∙ ap₂ (λ u v. times 15 0 4 u v) y n
 ''')
 for up in (16, 24):
     unit = above[up][1]
@@ -101,22 +96,22 @@ const ABOVE_{up}: [u16; 256] = [
 
 // What x stands for {up} places up.
 pub fn above_{up}(x: u8) -> u16
-    ensures {{ λ r. ⌜ r ≡ times 15 0x1100B 8 0x{unit:04X} x ⌝ }}
+    ensures {{ result ≡ times 15 0x1100B 8 0x{unit:04X} x }}
 {{
     ABOVE_{up}[x as usize]
 }}
 '''
-    write(f'proofs/tables/above_{up}/Answers.antt', HEAD + f'''use Rattle·field·proofs.tables.above_{up}.Needs as need
+    write(f'proofs/tables/above_{up}/Answers.antt', HEAD.replace('WORDS', ABOVE_WORDS) + f'''use Rattle.field.proofs.tables.above_{up}.Goals as goal
 
 ''' + list_of(above[up]) + f'''
 right : ℕ → ℕ → Bool
 right k e = eqb e (times 15 0x1100B 8 0x{unit:04X} k)
 
-pub returns : need.returns
+pub returns : goal.returns
 unfolding entries right times double
 returns c =
-    let h : c .args .x < 256 = omega (arith, c .fits .x) in
-    eqb→eq (getD entries (c .args .x) 0) (times 15 0x1100B 8 0x{unit:04X} (c .args .x)) (at right entries tt (c .args .x) h)
+    let h : c.args.x < 256 = omega (arith, c.ranges.x) in
+    eqb→eq (get_or entries c.args.x 0) (times 15 0x1100B 8 0x{unit:04X} c.args.x) (at right entries tt c.args.x h)
 ''')
 write('src/tables.rt', source)
 
@@ -138,19 +133,17 @@ def inverse(a):
 points = [reduced(1 << i) for i in range(20)]
 gaps = [inverse(points[k // 20] ^ points[k % 20]) for k in range(400)]
 write('src/points.rt', '''// The points of the twenty positions, and the inverses of their differences. Written by tools/product_tables.py.
-ghost use mathlib.Core.Path.{_≡_};
-ghost use Prim.Native.Nat.{_<_};
-ghost use lib.Bits.{bitXor};
-ghost use Rattle·field·specs.Polynomials.{wordProduct, wordInverse};
-ghost use Rattle·field·specs.Sums.{power};
+ghost use Rattle.std.specs.Prelude.{◌≡◌, ◌<◌, bit_xor};
+ghost use Rattle.field.specs.Polynomials.{word_product, word_inverse};
+ghost use Rattle.field.specs.Sums.{power};
 
 const POINTS: [u16; 20] = [
 ''' + wrapped(['0x%04X' % e for e in points], ', ', '    ') + ''',
 ];
 
 pub fn near_point(i: usize) -> u16
-    requires { ⌜ i < 20 ⌝ }
-    ensures { λ r. ⌜ r ≡ power wordProduct 2 i ⌝ }
+    requires { i < 20 }
+    ensures { result ≡ power word_product 2 i }
 {
     POINTS[i]
 }
@@ -160,53 +153,44 @@ const GAPS: [u16; 400] = [
 ];
 
 pub fn near_gap(i: usize, k: usize) -> u16
-    requires { ⌜ i < 20 ⌝ ∗ ⌜ k < 20 ⌝ }
-    ensures { λ r. ⌜ r ≡ wordInverse (bitXor (power wordProduct 2 i) (power wordProduct 2 k)) ⌝ }
+    requires { (i < 20) × (k < 20) }
+    ensures { result ≡ word_inverse (bit_xor (power word_product 2 i) (power word_product 2 k)) }
 {
     GAPS[20 * i + k]
 }
 ''')
 write('proofs/points/near_point/Answers.antt', '''-- The entries of a table, by one computed test. Written by tools/product_tables.py. Assumes nothing.
-use mathlib.Core.List.{List, [], _∷_}
-use Prim.Native.Nat.{ℕ}
-use lib.ListN.{getD}
-use Rattle·field·specs.Polynomials.{double, times, product, wordProduct}
-use Rattle·field·specs.Sums.{power}
-use Rattle·field·proofs.Computed.{same-at}
-use Rattle·field·proofs.points.near_point.Needs as need
+use Rattle.std.proofs.Common.{ℕ, List, [], ◌∷◌, get_or}
+use Rattle.field.specs.Polynomials.{double, times, product, word_product}
+use Rattle.field.specs.Sums.{power}
+use Rattle.field.specs.Computed.{same_at}
+use Rattle.field.proofs.points.near_point.Goals as goal
 
 ''' + list_of(points) + '''
-pub returns : need.returns
-unfolding entries power wordProduct product times double
-returns c = same-at (λ i. getD entries i 0) (power wordProduct 2) 20 tt (c .args .i) (c .pre)
+pub returns : goal.returns
+unfolding entries power word_product product times double
+returns c = same_at (λ i. get_or entries i 0) (power word_product 2) 20 tt c.args.i c.requires
 ''')
 write('proofs/points/near_gap/Answers.antt', '''-- The entries of a table, by one computed test. Written by tools/product_tables.py. Assumes nothing.
-use mathlib.Core.Bool.{Bool}
-use mathlib.Core.List.{List, [], _∷_}
-use mathlib.Core.Path.{_≡_, _∙_, ap, ap₂}
-use Prim.Native.Nat.{ℕ, _+_, _*_, _/_, _%_, _<_}
-use native.Mathlib.Omega.{arith}
-use lib.Dec.{T}
-use lib.Bits.{bitXor}
-use lib.ListN.{getD}
-use borrow.Author.Needs.{needs}
-use Rattle·field·specs.Polynomials.{double, times, product, wordProduct, wordInverse}
-use Rattle·field·specs.Sums.{power}
-use Rattle·field·proofs.Computed.{at}
-use Rattle·field·proofs.Gaps.{isGap, gap-inverse}
-use Rattle·field·proofs.points.near_gap.Needs as need
+use Rattle.std.proofs.Common.{◌≡◌, ℕ, ◌+◌, ◌*◌, ◌/◌, ◌%◌, ◌<◌, Bool, List, [], ◌∷◌, get_or, ◌∙◌, ap₂, arith}
+use lib.Bits.{bit_xor}
+use Rattle.field.specs.Polynomials.{double, times, product, word_product, word_inverse}
+use Rattle.field.specs.Sums.{power}
+use Rattle.field.specs.Computed.{at}
+use Rattle.field.proofs.Gaps.{is_gap, gap-inverse}
+use Rattle.field.proofs.points.near_gap.Goals as goal
 
 ''' + list_of(gaps) + '''
 right : ℕ → ℕ → Bool
-right k e = isGap (k / 20) (k % 20) e
+right k e = is_gap (k / 20) (k % 20) e
 
-pub returns : need.returns
-unfolding entries right isGap power wordProduct product times double
+pub returns : goal.returns
+unfolding entries right is_gap power word_product product times double
 returns c =
-    let k : ℕ = 20 * c .args .i + c .args .k in
-    let h : 20 * c .args .i + c .args .k < 400 = omega (arith, c .pre) in
-    let i : (20 * c .args .i + c .args .k) / 20 ≡ c .args .i = omega (arith, c .pre) in
-    let j : (20 * c .args .i + c .args .k) % 20 ≡ c .args .k = omega (arith, c .pre) in
-    gap-inverse (k / 20) (k % 20) (getD entries k 0) (at right entries tt k h)
-      ∙ ap₂ (λ u v. wordInverse (bitXor (power wordProduct 2 u) (power wordProduct 2 v))) i j
+    let k : ℕ = 20 * c.args.i + c.args.k in
+    let h : 20 * c.args.i + c.args.k < 400 = omega (arith, c.requires) in
+    let i : (20 * c.args.i + c.args.k) / 20 ≡ c.args.i = omega (arith, c.requires) in
+    let j : (20 * c.args.i + c.args.k) % 20 ≡ c.args.k = omega (arith, c.requires) in
+    gap-inverse (k / 20) (k % 20) (get_or entries k 0) (at right entries tt k h)
+    ∙ ap₂ (λ u v. word_inverse (bit_xor (power word_product 2 u) (power word_product 2 v))) i j
 ''')
