@@ -1,2 +1,3 @@
 pub mod Tells
 pub mod Shown
+pub mod Lengths

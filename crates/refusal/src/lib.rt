@@ -5,10 +5,13 @@ ghost use Rattle.std.specs.Prelude.{◌≡◌, Some};
 ghost use Rattle.refusal.specs.Tells.{number_of};
 ghost use Rattle.refusal.specs.Shown.{text};
 
+mod lengths;
+
+pub use lengths::{BLOCK_LEN, WORK_LEN, check_length, exactly};
 use std::fmt;
 
 // Why a call is refused. A refusal has a number from 1 to 15, and values that say what was wrong.
-#[derive(Clone, Copy, PartialEq, Eq)]
+#[derive(Clone, Copy, PartialEq, Eq, Debug)]
 pub enum Refusal {
     // 1: a buffer or work area has this length, and the call wants another.
     WrongLength(usize),
