@@ -9,7 +9,7 @@ use crate::block_type::BlockType;
 use bits::Layout;
 
 // Control Field 1: what a block is and what it holds.
-#[derive(Clone, Copy, PartialEq, Eq, Debug)]
+#[derive(Clone, Copy, PartialEq, Eq, Debug, Default)]
 pub struct Control1 {
     // Reserved, 26 bits.
     pub reserved: u32,

@@ -7,7 +7,7 @@ ghost use Rattle.block.specs.Control.{bytes2, control2_of};
 use bits::Layout;
 
 // Control Field 2: where a block stands.
-#[derive(Clone, Copy, PartialEq, Eq, Debug)]
+#[derive(Clone, Copy, PartialEq, Eq, Debug, Default)]
 pub struct Control2 {
     // Reserved, 5 bits.
     pub reserved: u8,
