@@ -48,7 +48,7 @@ fn after_rest(start: u64, rest: &[u8]) -> u64
 pub fn crc64_more(start: u64, bytes: &[u8]) -> u64
     ensures { result ≡ crc_more start bytes.now }
 {
-    let (eights, rest) = bytes.as_chunks();
+    let (eights, rest) = bytes.as_chunks::<8>();
     let mut register = start;
     for eight in eights {
         register = after_eight(register, *eight);
