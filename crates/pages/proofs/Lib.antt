@@ -1,4 +1,4 @@
 pub mod EntryLaws
 pub mod MapSteps
 pub mod MapRule
-pub mod PageLaws
+pub mod Slots

@@ -4,12 +4,12 @@ use borrow.Author.Tests.{eqb-false}
 use Rattle.pages.specs.Map.{entry_at, lawful_entry, map_step, map_from, map_size, page_start, pages_and_entries, LawfulMap, MapsByRule}
 use Rattle.pages.specs.declared.entry.Entry.{Entry}
 use Rattle.pages.specs.declared.map.Step.{Step}
-use Rattle.pages.specs.declared.map.Step.TheVariants.{Unlawful, Last, Next}
+use Rattle.pages.specs.declared.map.Step.TheVariants.{Last, Next}
 use Rattle.pages.proofs.MapSteps.{follow, map-follows, start_more}
 
 -- what an entry says, by its four tests
-abbrev step_of : Bool → Bool → Bool → Bool → ℕ → Step
-step_of law fits last small rest = cond (law && fits) (cond last (cond small Last Unlawful) (Next rest)) Unlawful
+abbrev step_of : Bool → Bool → Bool → Bool → ℕ → Option Step
+step_of law fits last small rest = cond (law && fits) (cond last (cond small (Some Last) None) (Some (Next rest))) None
 
 -- the rule, of the entries from i on
 pub record From (field : List ℕ) (i n : ℕ) : Type 0 where
@@ -123,9 +123,9 @@ rule-map field n w (suc left) free i h k e =
         let s : leb (free - (x.count + 8)) 16 ≡ true =
         le-leb (free - (x.count + 8)) 16
         (omega (arith, entry_more field i, w.full, ap (pages_and_entries field) r)) in
-        ap (λ (t : Step). follow t i (λ f. map_from left f (i + 1) field)) (tests true true (w.last i h ∙ eb) s) ∙ ap Some r
+        ap (λ (t : Option Step). follow t i (λ f. map_from left f (i + 1) field)) (tests true true (w.last i h ∙ eb) s) ∙ ap Some r
     go false eb ih =
-        ap (λ (t : Step). follow t i (λ f. map_from left f (i + 1) field))
+        ap (λ (t : Option Step). follow t i (λ f. map_from left f (i + 1) field))
         (tests false (leb (free - (x.count + 8)) 16) (w.last i h ∙ eb) refl)
         ∙ ih (let apart : i + 1 ≡ n → ⊥ = eqb-false (i + 1) n eb in omega arith)
         (omega (arith, entry_more field i, leb-true (x.count + 8) free fits))

@@ -1,3 +1,4 @@
+pub mod Kind
 pub mod Entry
 pub mod Map
 pub mod Page

@@ -2,10 +2,13 @@
 #![tactic(auto)]
 
 mod entry;
+mod kind;
 mod laws;
 mod map;
 mod page;
 
-pub use entry::{DATA, Entry, FILLER, TAPE_MARK};
+pub use entry::{ENTRY_LEN, Entry};
+pub use kind::PageType;
 pub use laws::{entries_stand, maps_stand};
+pub use map::MAX_FREE;
 pub use page::{Page, page_at};
