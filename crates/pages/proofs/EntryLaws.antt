@@ -1,16 +1,16 @@
 -- A MAP entry goes into its eight bytes and comes out again. Assumes nothing.
 use Rattle.std.proofs.Common.{◌≡◌, ℕ, Bool, true, false, cond, eqb-true, ◌+◌, ◌-◌, ◌*◌, ◌/◌, ◌%◌, ◌^◌, ◌<◌, eqb, List, [], ◌∷◌, ◌++◌, length, get_or, take, drop, sym, refl, ap, ◌∙◌, mod-lt, div-one, arith, lit<, length-drop, length-take}
 use Rattle.bits.specs.Fields.{join, split, bytes, value, encode, decode, bit}
-use Rattle.pages.specs.Kind.{page_type, type_number}
+use Rattle.pages.specs.PageType.{type_of, number_of}
 use Rattle.pages.specs.Entry.{entry_widths, entry_fields, from_entry_fields, entry_bytes, entry_of, EntryDecodes, EntryEncodes}
 use Rattle.pages.specs.declared.entry.Entry.{Entry}
 use Rattle.bits.proofs.BitLaws.{decode_encode, encode_decode}
 use Rattle.bits.proofs.Groups.{group, degroup, degroup_last}
 use Rattle.bits.proofs.Digits.{bytes_two, bytes_four, encode_one, decode_one}
 use Rattle.bits.proofs.BitLaws.{flag-bit, bit-flag}
-use Rattle.pages.specs.declared.kind.PageType.TheVariants.{Filler, Data, TapeMark, Other}
+use Rattle.pages.specs.declared.page_type.PageType.TheVariants.{Filler, Data, TapeMark, Other}
 
-entry_fields_lem : (e : Entry) → page_type (type_number e.kind) ≡ e.kind → from_entry_fields (entry_fields e) ≡ e
+entry_fields_lem : (e : Entry) → type_of (number_of e.kind) ≡ e.kind → from_entry_fields (entry_fields e) ≡ e
 entry_fields_lem e k = λ i. record {
   kind = k i;
   next = flag-bit e.next i;
@@ -28,13 +28,13 @@ entry_decodes e h k =
     ap from_entry_fields (decode_encode entry_widths (entry_fields e) 8 refl h) ∙ entry_fields_lem e k
 
 -- a number of three bits comes back from the type for which it stands
-pub type_number_back : (n : ℕ) → n < 8 → type_number (page_type n) ≡ n
-type_number_back n h =
+pub number_back : (n : ℕ) → n < 8 → number_of (type_of n) ≡ n
+number_back n h =
     let low : n % 8 ≡ n = omega arith in
     go (eqb (n % 8) 1) (eqb (n % 8) 2) (eqb (n % 8) 3) refl refl refl ∙ low
   where
     go : (a b c : Bool) → eqb (n % 8) 1 ≡ a → eqb (n % 8) 2 ≡ b → eqb (n % 8) 3 ≡ c
-        → type_number (cond a Filler (cond b Data (cond c TapeMark (Other (n % 8))))) ≡ n % 8
+        → number_of (cond a Filler (cond b Data (cond c TapeMark (Other (n % 8))))) ≡ n % 8
     go true b c p q r = sym (eqb-true (n % 8) 1 p)
     go false true c p q r = sym (eqb-true (n % 8) 2 q)
     go false false true p q r = sym (eqb-true (n % 8) 3 r)
@@ -42,7 +42,7 @@ type_number_back n h =
 
 fields_back : (x : ℕ) → entry_fields (from_entry_fields (split entry_widths x)) ≡ split entry_widths x
 fields_back x = λ i.
-    type_number_back (f 0) (mod-lt (x / 2 ^ 61) (lit< tt)) i ∷ bit-flag (f 1) (mod-lt (x / 2 ^ 60) (lit< tt)) i ∷ bit-flag (f 2) (mod-lt (x / 2 ^ 59) (lit< tt)) i
+    number_back (f 0) (mod-lt (x / 2 ^ 61) (lit< tt)) i ∷ bit-flag (f 1) (mod-lt (x / 2 ^ 60) (lit< tt)) i ∷ bit-flag (f 2) (mod-lt (x / 2 ^ 59) (lit< tt)) i
     ∷ bit-flag (f 3) (mod-lt (x / 2 ^ 58) (lit< tt)) i ∷ bit-flag (f 4) (mod-lt (x / 2 ^ 57) (lit< tt)) i ∷ f 5 ∷ f 6 ∷ f 7 ∷ []
   where
     f : ℕ → ℕ
@@ -57,7 +57,7 @@ entry_encodes bs l h =
 
 abbrev flags : Entry → ℕ
 flags e = join (3 ∷ 1 ∷ 1 ∷ 1 ∷ 1 ∷ 9 ∷ [])
-    (type_number e.kind ∷ bit e.next ∷ bit e.prev ∷ bit e.last ∷ bit e.compressed ∷ e.reserved ∷ [])
+    (number_of e.kind ∷ bit e.next ∷ bit e.prev ∷ bit e.last ∷ bit e.compressed ∷ e.reserved ∷ [])
 
 groups : (e : Entry) → entry_bytes e ≡ bytes 2 (flags e) ++ (bytes 2 e.count ++ bytes 4 e.total)
 unfolding entry_bytes
@@ -88,7 +88,7 @@ entry-groups bs l =
 
 pub entry_is : (bs : List ℕ) → length bs ≡ 8 → (f count total : ℕ) → f ≡ at bs 0 2 → count ≡ at bs 2 2 → total ≡ at bs 4 4 → f < 2 ^ 16
     → entry_of bs ≡ record {
-      kind = page_type (f / 8192);
+      kind = type_of (f / 8192);
       next = eqb (f / 4096 % 2) 1;
       prev = eqb (f / 2048 % 2) 1;
       last = eqb (f / 1024 % 2) 1;
@@ -101,7 +101,7 @@ unfolding entry_of
 entry_is bs l f count total ef ec et lf =
     ap from_entry_fields (entry-groups bs l)
     ∙ (λ i. record {
-      kind = page_type (kind i);
+      kind = type_of (kind i);
       next = eqb (sym ef i / 4096 % 2) 1;
       prev = eqb (sym ef i / 2048 % 2) 1;
       last = eqb (sym ef i / 1024 % 2) 1;

@@ -1,4 +1,4 @@
-pub mod Kind
+pub mod PageType
 pub mod Entry
 pub mod Map
 pub mod Page

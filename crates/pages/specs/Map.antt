@@ -8,7 +8,7 @@
 --   page_start field k         where the page behind the first k starts
 --   pages_and_entries field k  the bytes of the first k pages and their entries
 use Rattle.std.specs.Prelude.{◌≡◌, ℕ, zero, suc, ◌+◌, ◌-◌, ◌*◌, ◌<◌, ◌≤◌, Bool, true, cond, not, ◌&&◌, ◌||◌, List, take, drop, Some, None, Option, ◌==◌, nat_le}
-use Rattle.pages.specs.Kind.{is_known, holds_record}
+use Rattle.pages.specs.PageType.{is_known, holds_record}
 use Rattle.pages.specs.Entry.{entry_of}
 use Rattle.pages.specs.declared.entry.Entry.{Entry}
 use Rattle.pages.specs.declared.map.Step.{Step}

@@ -9,7 +9,7 @@ use Rattle.refusal.specs.Tells.{Answer, tells}
 use Rattle.refusal.specs.declared.Refusal.{Refusal}
 use Rattle.block.specs.Block.{data_field, block_len}
 use Rattle.pages.specs.Map.{entry_at, map_size, page_start}
-use Rattle.pages.specs.declared.kind.PageType.TheVariants as kinds
+use Rattle.pages.specs.declared.page_type.PageType.TheVariants as kinds
 use Rattle.pages.specs.declared.entry.Entry.{Entry}
 use Rattle.pages.specs.declared.page.Page.{Page as Pages}
 use Rattle.pages.specs.declared.page.Page.TheVariants.{Data, Filler, TapeMark}

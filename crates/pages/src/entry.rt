@@ -1,10 +1,10 @@
 // A MAP entry: what one page of a block is.
 ghost use Rattle.std.specs.Prelude.{◌≡◌, [], ◌∷◌};
 ghost use Rattle.bits.specs.Fields.{join, bit, sized};
-ghost use Rattle.pages.specs.Kind.{type_number};
+ghost use Rattle.pages.specs.PageType.{number_of};
 ghost use Rattle.pages.specs.Entry.{entry_bytes, entry_of};
 
-use crate::kind::PageType;
+use crate::page_type::PageType;
 
 // The bytes of an entry.
 pub const ENTRY_LEN: usize = 8;
@@ -67,7 +67,7 @@ impl Entry {
 
     // Page Type, the four flags and the reserved bits.
     fn flags(self) -> u16
-        ensures { result ≡ join (3 ∷ 1 ∷ 1 ∷ 1 ∷ 1 ∷ 9 ∷ []) (type_number self.kind ∷ bit self.next ∷ bit self.prev ∷ bit self.last ∷ bit self.compressed ∷ self.reserved ∷ []) }
+        ensures { result ≡ join (3 ∷ 1 ∷ 1 ∷ 1 ∷ 1 ∷ 9 ∷ []) (number_of self.kind ∷ bit self.next ∷ bit self.prev ∷ bit self.last ∷ bit self.compressed ∷ self.reserved ∷ []) }
     {
         u16::from(u8::from(self.kind) % 8) * 8192
             + u16::from(self.next) * 4096

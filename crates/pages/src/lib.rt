@@ -2,13 +2,13 @@
 #![tactic(auto)]
 
 mod entry;
-mod kind;
 mod laws;
 mod map;
 mod page;
+mod page_type;
 
 pub use entry::{ENTRY_LEN, Entry};
-pub use kind::PageType;
 pub use laws::{entries_stand, maps_stand};
 pub use map::MAX_FREE;
 pub use page::{Page, page_at};
+pub use page_type::PageType;

@@ -3,7 +3,7 @@ ghost use Rattle.std.specs.Prelude.{◌≡◌, ℕ, ◌+◌, ◌*◌, ◌<◌, �
 ghost use Rattle.pages.specs.Map.{entry_at, lawful_entry, map_step, map_size, page_start};
 
 use crate::entry::{ENTRY_LEN, Entry};
-use crate::kind::PageType;
+use crate::page_type::PageType;
 use block::FIELD_LEN;
 
 // With this many bytes free or fewer no page starts.

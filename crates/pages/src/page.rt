@@ -5,8 +5,8 @@ ghost use Rattle.pages.specs.Map.{map_size};
 ghost use Rattle.pages.specs.Page.{view, viewed, page_of, page_among, page_answer};
 
 use crate::entry::Entry;
-use crate::kind::PageType;
 use crate::map::{entry_in, map_size, start_of};
+use crate::page_type::PageType;
 use block::FIELD_LEN;
 use refusal::{BLOCK_LEN, Refusal, exactly};
 

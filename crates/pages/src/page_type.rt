@@ -1,8 +1,7 @@
-// The Page Type of a MAP entry: what a page holds.
+// Page Type: what a page holds, three bits of its MAP entry.
 ghost use Rattle.std.specs.Prelude.{◌≡◌};
-ghost use Rattle.pages.specs.Kind.{page_type, type_number};
+ghost use Rattle.pages.specs.PageType.{number_of, type_of};
 
-// Three bits.
 #[derive(Clone, Copy, PartialEq, Eq, Debug)]
 pub enum PageType {
     // 1: bytes that only fill the block up.
@@ -11,16 +10,16 @@ pub enum PageType {
     Data,
     // 3: a tape mark.
     TapeMark,
-    // A number that stands for none of these.
+    // Any other number: no page of this format.
     Other(u8),
 }
 
-// The type for which the low three bits of a byte stand.
+// The low three bits of the number decide.
 impl From<u8> for PageType {
-    ghost from_gives = { λ bits kind. kind ≡ page_type bits };
+    ghost from_gives = { λ n t. t ≡ type_of n };
 
-    fn from(bits: u8) -> PageType {
-        match bits % 8 {
+    fn from(number: u8) -> PageType {
+        match number % 8 {
             1 => PageType::Filler,
             2 => PageType::Data,
             3 => PageType::TapeMark,
@@ -29,9 +28,8 @@ impl From<u8> for PageType {
     }
 }
 
-// The number that stands for a type.
 impl From<PageType> for u8 {
-    ghost from_gives = { λ kind number. number ≡ type_number kind };
+    ghost from_gives = { λ t n. n ≡ number_of t };
 
     fn from(kind: PageType) -> u8 {
         match kind {

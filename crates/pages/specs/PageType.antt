@@ -1,0 +1,28 @@
+-- Page Type and its number. Assumes nothing.
+--
+--   number_of t     the number that is written for the type t; only its low three bits are kept
+--   type_of n       the type that the low three bits of n stand for
+--   is_known t      t is Filler, Data or a tape mark
+--   holds_record t  pages of the type t hold bytes of records
+use Rattle.std.specs.Prelude.{ℕ, ◌%◌, Bool, true, false, cond, ◌==◌}
+use Rattle.pages.specs.declared.page_type.PageType.{PageType}
+use Rattle.pages.specs.declared.page_type.PageType.TheVariants.{Filler, Data, TapeMark, Other}
+
+abbrev pub number_of : PageType → ℕ
+number_of Filler = 1
+number_of Data = 2
+number_of TapeMark = 3
+number_of (Other n) = n
+
+abbrev pub type_of : ℕ → PageType
+type_of n = cond (n % 8 == 1) Filler (cond (n % 8 == 2) Data (cond (n % 8 == 3) TapeMark (Other (n % 8))))
+
+abbrev pub is_known : PageType → Bool
+is_known Filler = true
+is_known Data = true
+is_known TapeMark = true
+is_known (Other n) = false
+
+abbrev pub holds_record : PageType → Bool
+holds_record Data = true
+holds_record _ = false
