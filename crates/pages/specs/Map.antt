@@ -7,8 +7,9 @@
 --   map_size field             how many entries the map has, if it is lawful
 --   page_start field k         where the page behind the first k starts
 --   pages_and_entries field k  the bytes of the first k pages and their entries
-use Rattle.std.specs.Prelude.{◌≡◌, ℕ, zero, suc, ◌+◌, ◌-◌, ◌*◌, ◌<◌, ◌≤◌, Bool, true, cond, not, ◌&&◌, ◌||◌, List, take, drop, Some, None, Option, ◌==◌, nat_le}
-use Rattle.pages.specs.PageType.{is_known, holds_record}
+use Rattle.std.specs.Prelude.{◌≡◌, ℕ, zero, suc, ◌+◌, ◌-◌, ◌*◌, ◌<◌, ◌≤◌, Bool, true, false, cond, not, ◌&&◌, ◌||◌, List, take, drop, Some, None, Option, ◌==◌, nat_le}
+use Rattle.pages.specs.PageType.{is_known}
+use Rattle.pages.specs.declared.page_type.PageType.TheVariants.{Data}
 use Rattle.pages.specs.Entry.{entry_of}
 use Rattle.pages.specs.declared.entry.Entry.{Entry}
 use Rattle.pages.specs.declared.map.Step.{Step}
@@ -18,7 +19,7 @@ abbrev pub entry_at : List ℕ → ℕ → Entry
 entry_at field i = entry_of (take 8 (drop (8208 - 8 * (i + 1)) field))
 
 abbrev pub is_data : Entry → Bool
-is_data e = holds_record e.kind
+is_data e = elim e.kind [ Data ↦ true | _ ↦ false ]
 
 abbrev pub lawful_entry : Bool → Entry → Bool
 lawful_entry first e =

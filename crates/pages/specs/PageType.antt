@@ -1,9 +1,8 @@
 -- Page Type and its number. Assumes nothing.
 --
---   number_of t     the number that is written for the type t; only its low three bits are kept
---   type_of n       the type that the low three bits of n stand for
---   is_known t      t is Filler, Data or a tape mark
---   holds_record t  pages of the type t hold bytes of records
+--   number_of t   the number that is written for the type t; only its low three bits are kept
+--   type_of n     the type that the low three bits of n stand for
+--   is_known t    t is Filler, Data or a tape mark
 use Rattle.std.specs.Prelude.{ℕ, ◌%◌, Bool, true, false, cond, ◌==◌}
 use Rattle.pages.specs.declared.page_type.PageType.{PageType}
 use Rattle.pages.specs.declared.page_type.PageType.TheVariants.{Filler, Data, TapeMark, Other}
@@ -22,7 +21,3 @@ is_known Filler = true
 is_known Data = true
 is_known TapeMark = true
 is_known (Other n) = false
-
-abbrev pub holds_record : PageType → Bool
-holds_record Data = true
-holds_record _ = false

@@ -1,6 +1,5 @@
 -- Truth of joined tests, and options that are not none. Assumes nothing.
-use Rattle.std.proofs.Common.{◌≡◌, Bool, true, false, not, ◌&&◌, ◌||◌, T, sym, refl, subst}
-use mathlib.Core.Option.{Option, some, none}
+use Rattle.std.proofs.Common.{◌≡◌, Bool, true, false, not, ◌&&◌, ◌||◌, T, sym, refl, subst, Option, Some, None}
 
 pub is_true : (b : Bool) → T b → b ≡ true
 is_true true t = refl
@@ -39,8 +38,8 @@ and_no_right true b t = is_false b t
 and_no_right false b t = refl
 
 abbrev HasNothing : {A : Type 0} → Option A → Type 0
-HasNothing none = Unit {0}
-HasNothing (some a) = ⊥
+HasNothing None = Unit {0}
+HasNothing (Some a) = ⊥
 
-pub not_some : {A B : Type 0} (a : A) → some a ≡ none → B
+pub not_some : {A B : Type 0} (a : A) → Some a ≡ None → B
 not_some a e = absurd (subst HasNothing (sym e) tt)
