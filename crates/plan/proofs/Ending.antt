@@ -1,5 +1,5 @@
 -- As many objects end in laid blocks as their pages say. Assumes nothing.
-use Rattle.std.proofs.Common.{◌≡◌, ℕ, zero, suc, ◌+◌, ◌-◌, ◌≤◌, Bool, true, false, cond, not, ◌&&◌, ◌||◌, T, eqb, ltb, List, [], ◌∷◌, ◌++◌, length, take, drop, sym, refl, ap, ◌∙◌, subst, ap₂, le_of_suc-le-suc, not-suc-le-zero, arith, length-append, Option, Some, None}
+use Rattle.std.proofs.Common.{◌≡◌, ℕ, suc, ◌+◌, ◌-◌, ◌≤◌, Bool, true, false, cond, not, ◌&&◌, ◌||◌, T, eqb, ltb, List, [], ◌∷◌, ◌++◌, length, take, drop, sym, refl, ap, ◌∙◌, subst, ap₂, arith, length-append, Option, Some, None}
 use Rattle.std.proofs.lemmas.List.{length-drop}
 use Rattle.pages.specs.PageType.{is_known}
 use Rattle.pages.specs.declared.page_type.PageType.{PageType}
@@ -12,7 +12,6 @@ use Rattle.plan.specs.DataFields.{ends_in}
 use Rattle.plan.specs.Following.{Open, closed, going, Followed, broke, PageStep, breaks, goes_on, ends, page_step}
 use Rattle.plan.specs.Following.{follow_pages, follow_block, follow_blocks}
 use Rattle.plan.specs.Laws.{Laid, AllLaid}
-use Rattle.plan.proofs.Truth.{not_some}
 use Rattle.plan.proofs.LawfulPages.{Law, law, into_next}
 use Rattle.plan.proofs.MapBytes.{map_reads_back}
 use Rattle.plan.proofs.Splitting.{then-blocks}
@@ -123,5 +122,5 @@ count-blocks last (pgs ∷ more) o b bs l h e =
         → length (follow_blocks last o₁ (suc b) fs).found ≡ ends_in more)
         → (then-blocks last b (record { ended = es; after = q }) fs).broken ≡ None
         → length (then-blocks last b (record { ended = es; after = q }) fs).found ≡ ends_on pgs + ends_in more
-    go es None c ih k = not_some b k
+    go es None c ih k = cc
     go es (Some o₁) c ih k = length-append es (follow_blocks last o₁ (suc b) fs).found ∙ ap₂ ◌+◌ (c tt) (ih o₁ k)

@@ -6,7 +6,6 @@ use Rattle.plan.specs.Objects.{Object}
 use Rattle.plan.specs.DataFields.{user_bytes, all_user_bytes, field_of, fields}
 use Rattle.plan.specs.Following.{Open, closed, going, is_open, Followed, follow_block, EntityFollowed, before_found}
 use Rattle.plan.specs.Following.{follow_blocks}
-use Rattle.plan.proofs.Truth.{not_some}
 
 -- nothing broke: the objects found, and what is left open
 abbrev pub whole-found : List Object → Open → EntityFollowed
@@ -48,7 +47,7 @@ follow_on last (x ∷ xs) ys o o' b os h =
         → then-blocks false b (record { ended = es; after = q }) xs ≡ whole-found os o'
         → then-blocks last b (record { ended = es; after = q }) (xs ++ ys)
         ≡ before_found os (follow_blocks last o' (b + length (x ∷ xs)) ys)
-    go es None ih k = not_some b (ap (λ (f : EntityFollowed). f.broken) k)
+    go es None ih k = let e : Some b ≡ None = ap (λ (f : EntityFollowed). f.broken) k in cc
     go es (Some o₁) ih k =
         let f : EntityFollowed = follow_blocks false o₁ (suc b) xs in
         let n : suc b + length xs ≡ b + suc (length xs) = omega arith in
@@ -87,7 +86,7 @@ follow_first last (x ∷ xs) ys o b h = go (follow_block o x).ended (follow_bloc
         → (follow_blocks false o₁ (suc b) xs).broken ≡ None)
         → (then-blocks last b (record { ended = es; after = q }) (xs ++ ys)).broken ≡ None
         → (then-blocks false b (record { ended = es; after = q }) xs).broken ≡ None
-    go es None ih k = not_some b k
+    go es None ih k = cc
     go es (Some o₁) ih k = ih o₁ k
 
 -- where nothing breaks, the blocks' numbers say nothing
@@ -99,7 +98,7 @@ any-number last [] o b b' h = go (last && is_open o) h
     go : (p : Bool) → cond p (Some (b - 1)) None ≡ None
         → ◌≡◌ {A = EntityFollowed} (record { found = []; broken = cond p (Some (b' - 1)) None; left_open = o })
         (record { found = []; broken = cond p (Some (b - 1)) None; left_open = o })
-    go true k = not_some (b - 1) k
+    go true k = cc
     go false k = refl
 any-number last (x ∷ xs) o b b' h = go (follow_block o x).ended (follow_block o x).after
     (λ o₁. any-number last xs o₁ (suc b) (suc b')) h
@@ -110,7 +109,7 @@ any-number last (x ∷ xs) o b b' h = go (follow_block o x).ended (follow_block 
         → (then-blocks last b (record { ended = es; after = q }) xs).broken ≡ None
         → then-blocks last b' (record { ended = es; after = q }) xs
         ≡ then-blocks last b (record { ended = es; after = q }) xs
-    go es None ih k = not_some b k
+    go es None ih k = cc
     go es (Some o₁) ih k = ap (before_found es) (ih o₁ k)
 
 -- what is lawful in the last entity is lawful in any
@@ -118,7 +117,7 @@ pub not_last : (xs : List (List ℕ)) (o : Open) (b : ℕ) → (follow_blocks tr
     → follow_blocks false o b xs ≡ follow_blocks true o b xs
 unfolding follow_blocks then-blocks
 not_last [] closed b h = refl
-not_last [] (going t got) b h = not_some (b - 1) h
+not_last [] (going t got) b h = cc
 not_last (x ∷ xs) o b h = go (follow_block o x).ended (follow_block o x).after (λ o₁. not_last xs o₁ (suc b)) h
   where
     go : (es : List Object) (q : Option Open)
@@ -127,7 +126,7 @@ not_last (x ∷ xs) o b h = go (follow_block o x).ended (follow_block o x).after
         → (then-blocks true b (record { ended = es; after = q }) xs).broken ≡ None
         → then-blocks false b (record { ended = es; after = q }) xs
         ≡ then-blocks true b (record { ended = es; after = q }) xs
-    go es None ih k = not_some b k
+    go es None ih k = cc
     go es (Some o₁) ih k = ap (before_found es) (ih o₁ k)
 
 pub fields-append : (xs ys : List (List PlannedPage)) (bs : List ℕ)

@@ -16,5 +16,6 @@ pub fn plans_stand()
     ensures sized { EntitiesSized }
     ensures proper { FieldsProper }
     ensures ends { EndsAddUp }
-    ensures numbers { (PageNumbers) × (EntitiesNumbered) }
+    ensures pages { PageNumbers }
+    ensures entities { EntitiesNumbered }
 {}
