@@ -4,7 +4,7 @@ ghost use Rattle.std.specs.Prelude.{◌≡◌, length};
 use crate::crc_vectors::BODY_LEN;
 use crate::filling::fill;
 use crate::tally::Tally;
-use block::{BLOCK_LEN, Control2, FIELD_LEN, edc_of, is_sound, make_check, make_end};
+use block::{BLOCK_LEN, Control2, EndHeader, FIELD_LEN, edc_of, is_sound, make_check, make_end};
 use crc::crc64;
 use std::io;
 
@@ -119,7 +119,13 @@ fn end_block(
     wanted: u64,
 ) -> io::Result<()> {
     let mut block = [OLD; BLOCK_LEN];
-    let made = make_end(&mut block, back, place, 2, 1).is_ok();
+    let header = EndHeader {
+        back,
+        place,
+        envelope: 2,
+        tag: 1,
+    };
+    let made = make_end(&mut block, header).is_ok();
     let name = format_args!("CRC of the end block of place {place}, back link {back}");
     tally.compare(rt, name, body_crc(&block), wanted)?;
     tally.check(rt, "it is made and sound", made && judged(&block))

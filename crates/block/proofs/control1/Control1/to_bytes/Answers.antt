@@ -1,7 +1,7 @@
 -- The groups of bytes are those of the field. Assumes nothing.
 use Rattle.std.proofs.Common.{sym, arith}
 use Rattle.block.proofs.ControlBytes.{bytes1_are}
-use Rattle.block.proofs.control.Control1.to_bytes.Goals as goal
+use Rattle.block.proofs.control1.Control1.to_bytes.Goals as goal
 
 pub returns : goal.returns
 returns c =
