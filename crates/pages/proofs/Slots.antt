@@ -1,5 +1,5 @@
 -- The places that entries can have, and the entries that stand there. Assumes nothing.
-use Rattle.std.proofs.Common.{◌≡◌, ℕ, eqb, Option, zero, suc, ◌+◌, ◌-◌, ◌*◌, ◌/◌, ◌^◌, ◌<◌, ◌≤◌, List, [], length, get_or, take, drop, reverse, refl, ap, ◌∙◌, ap₂, add_comm, mod-lt, lit<, arith}
+use Rattle.std.proofs.Common.{◌≡◌, ℕ, eqb, Option, zero, suc, ◌+◌, ◌-◌, ◌*◌, ◌/◌, ◌^◌, ◌<◌, ◌≤◌, List, [], length, get_or, take, drop, reverse, refl, ap, ◌∙◌, ap₂, zero-add, add_comm, mod-lt, lit<, arith}
 use Rattle.std.proofs.Math.ListN.{drop_of_length-le}
 use Rattle.std.proofs.lemmas.List.{drop-drop, get_or_default, get_or-reverse, length-reverse}
 use Rattle.std.proofs.lemmas.List.FromFn.{get_or-enumerate_from, length-enumerate_from}
@@ -32,20 +32,28 @@ from_back slots field s i h =
     let e : 8 * (1025 - i) ≡ 8208 - 8 * (i + 1) = omega arith in
     ap entry_of (s.each (1025 - i) (omega arith) ∙ ap (λ (m : ℕ). take 8 (drop m field)) e)
 
+-- item n of the slots from the back, counted
+slot_item : (slots : List (List ℕ)) (n i : ℕ) (bytes : List ℕ) → length slots ≡ 1026 → n < 1026
+    → (i, bytes) ≡ get_or (enumerate_from 0 (reverse slots)) n (i, bytes)
+    → ◌≡◌ {A = ℕ × List ℕ} (i, bytes) (n, get_or slots (1025 - n) [])
+slot_item slots n i bytes l h e =
+    let at : length slots - 1 - n ≡ 1025 - n = omega arith in
+    e
+    ∙ get_or-enumerate_from 0 (reverse slots) n (i, bytes) (omega (arith, length-reverse slots))
+    ∙ ap₂ {C = ℕ × List ℕ} (λ (a : ℕ) (b : List ℕ). (a, b)) (zero-add n)
+    (get_or-reverse slots n bytes (omega arith) ∙ get_or_default slots (length slots - 1 - n) bytes [] (omega arith)
+    ∙ ap (λ (k : ℕ). get_or slots k []) at)
+
 -- one turn of a loop over the slots from the back, behind n turns: s is what its entry says
-pub slot_turn : (slots : List (List ℕ)) (field : List ℕ) → Slots slots field → (n free i : ℕ) (bytes : List ℕ) (s : Option Step)
-    → (n < length (enumerate_from 0 (reverse slots))) × ((i, bytes) ≡ get_or (enumerate_from 0 (reverse slots)) n (i, bytes))
+pub slot_turn : (slots : List (List ℕ)) (field : List ℕ) → Slots slots field
+    → (n free i : ℕ) (bytes : List ℕ) (s : Option Step)
+    → (n < length (enumerate_from 0 (reverse slots)))
+    × ((i, bytes) ≡ get_or (enumerate_from 0 (reverse slots)) n (i, bytes))
     → s ≡ map_step free (eqb i 0) (entry_of bytes) → map_from (1026 - n) free n field ≡ map_size field
     → (i ≡ n) × (follow s n (λ f. map_from (1026 - (n + 1)) f (n + 1) field) ≡ map_size field)
 slot_turn slots field w n free i bytes s t e inv =
     let few : n < 1026 = omega (arith, t.0, length-enumerate_from 0 (reverse slots), length-reverse slots, w.count) in
-    let at : length slots - 1 - n ≡ 1025 - n = omega (arith, w.count) in
-    let item : (i, bytes) ≡ (n, get_or slots (1025 - n) []) =
-    t.1 ∙ get_or-enumerate_from 0 (reverse slots) n (i, bytes) (omega (arith, t.0, length-enumerate_from 0 (reverse slots)))
-    ∙ ap₂ {C = ℕ × List ℕ} (λ (a : ℕ) (b : List ℕ). (a, b)) (omega arith)
-    (get_or-reverse slots n bytes (omega (arith, w.count))
-    ∙ get_or_default slots (length slots - 1 - n) bytes [] (omega (arith, w.count))
-    ∙ ap (λ (k : ℕ). get_or slots k []) at) in (
+    let item : ◌≡◌ {A = ℕ × List ℕ} (i, bytes) (n, get_or slots (1025 - n) []) = slot_item slots n i bytes w.count few t.1 in (
       ap (λ (q : ℕ × List ℕ). q.0) item,
       by_step field free n s few
           (e ∙ ap (λ (q : ℕ × List ℕ). map_step free (eqb q.0 0) (entry_of q.1)) item

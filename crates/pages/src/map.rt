@@ -84,15 +84,14 @@ fn is_lawful(first: bool, e: Entry) -> bool
     ensures { result ≡ lawful_entry first e }
 {
     let data = e.kind == PageType::Data;
-    !matches!(e.kind, PageType::Other(_))
-        && !e.compressed
+    !e.compressed
         && e.reserved == 0
         && 1 <= e.count
         && (!e.prev || (first && data))
         && (!e.next || (e.last && data))
-        && if data {
-            1 <= e.total && e.total <= MAX_RECORD
-        } else {
-            e.last && e.total == 0
+        && match e.kind {
+            PageType::Data => (1..=MAX_RECORD).contains(&e.total),
+            PageType::Filler | PageType::TapeMark => e.last && e.total == 0,
+            PageType::Other(_) => false,
         }
 }
