@@ -14,6 +14,15 @@ pub enum BlockType {
     Other(u8),
 }
 
+// Where nothing is said the bits are ZERO.
+impl Default for BlockType {
+    ghost is_default = { λ t. t ≡ type_of 0 };
+
+    fn default() -> BlockType {
+        BlockType::Other(0)
+    }
+}
+
 // The low three bits of the number decide.
 impl From<u8> for BlockType {
     ghost from_gives = { λ n t. t ≡ type_of n };

@@ -1,13 +1,15 @@
 // Control Field 1 of a block, taken apart and put together.
 ghost use Rattle.std.specs.Prelude.{◌≡◌, ℕ, ◌+◌, ◌*◌, ◌/◌, ◌%◌, [], ◌∷◌};
-ghost use Rattle.bits.specs.Fields.{join, bit, sized};
+ghost use Rattle.bits.specs.Fields.{join, bit};
 ghost use Rattle.block.specs.BlockType.{number_of};
+ghost use Rattle.std.proofs.Common.{lit<};
 ghost use Rattle.block.specs.Control.{bytes1, control1_of};
 
 use crate::block_type::BlockType;
+use bits::Layout;
 
 // Control Field 1: what a block is and what it holds.
-#[derive(Clone, Copy, PartialEq, Eq, Debug)]
+#[derive(Clone, Copy, PartialEq, Eq, Debug, Default)]
 pub struct Control1 {
     // Reserved, 26 bits.
     pub reserved: u32,
@@ -35,57 +37,30 @@ pub struct Control1 {
     pub back: u32,
 }
 
-impl Control1 {
-    // The 20 bytes of the field; a value wider than its bits keeps its low ones.
-    pub fn to_bytes(self) -> [u8; 20]
-        ensures { result ≡ bytes1 self }
-    {
+impl Layout<20> for Control1 {
+    ghost bytes_of = { bytes1 };
+
+    ghost value_of = { control1_of };
+
+    ghost small = { lit< tt };
+
+    fn to_bytes(self) -> [u8; 20] {
         let [h0, h1, h2, h3] = self.head().to_be_bytes();
         let [_, t0, t1, t2] = self.mark.to_be_bytes();
         let [o0, o1, o2, o3] = self.object.to_be_bytes();
         let [s0, s1] = self.sequence.to_be_bytes();
         let [m0, m1] = self.file_marks().to_be_bytes();
         let [_, l0, l1, l2] = self.back.to_be_bytes();
-        let kind = self.kind_byte();
         let c = self.compression;
+        let k = self.kind_byte();
         [
-            h0, h1, h2, h3, t0, t1, t2, c, o0, o1, o2, o3, s0, s1, m0, m1, kind, l0, l1, l2,
+            h0, h1, h2, h3, t0, t1, t2, c, o0, o1, o2, o3, s0, s1, m0, m1, k, l0, l1, l2,
         ]
     }
 
-    // The field in 20 bytes; nothing for any other number of bytes.
-    pub fn from_bytes(bytes: &[u8]) -> Option<Control1>
-        ensures { result ≡ sized 20 bytes.now (control1_of bytes.now) }
-    {
-        bytes.as_array().map(Control1::read)
-    }
-
-    // The field in 20 bytes.
-    pub(crate) fn read(bytes: &[u8; 20]) -> Control1
-        ensures { result ≡ control1_of bytes.now }
-    {
-        let [
-            h0,
-            h1,
-            h2,
-            h3,
-            t0,
-            t1,
-            t2,
-            c,
-            o0,
-            o1,
-            o2,
-            o3,
-            s0,
-            s1,
-            m0,
-            m1,
-            kind,
-            l0,
-            l1,
-            l2,
-        ] = *bytes;
+    fn read(bytes: &[u8; 20]) -> Control1 {
+        #[rattlefmt::skip]
+        let [h0, h1, h2, h3, t0, t1, t2, c, o0, o1, o2, o3, s0, s1, m0, m1, k, l0, l1, l2] = *bytes;
         let head = u32::from_be_bytes([h0, h1, h2, h3]);
         let marks = u16::from_be_bytes([m0, m1]);
         Control1 {
@@ -97,13 +72,15 @@ impl Control1 {
             sequence: u16::from_be_bytes([s0, s1]),
             file_mark_offset: (marks / 4096) as u8,
             file_mark_number: marks % 4096,
-            kind: BlockType::from(kind / 32),
-            early_warning: kind / 16 % 2 == 1,
-            entities: kind % 16,
+            kind: BlockType::from(k / 32),
+            early_warning: k / 16 % 2 == 1,
+            entities: k % 16,
             back: u32::from_be_bytes([0, l0, l1, l2]),
         }
     }
+}
 
+impl Control1 {
     // Reserved and Format.
     fn head(self) -> u32
         ensures { result ≡ join (26 ∷ 6 ∷ []) (self.reserved ∷ self.format ∷ []) }

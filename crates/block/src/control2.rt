@@ -1,10 +1,13 @@
 // Control Field 2 of a block, taken apart and put together.
 ghost use Rattle.std.specs.Prelude.{◌≡◌, ℕ, ◌+◌, ◌*◌, ◌/◌, ◌%◌, [], ◌∷◌};
-ghost use Rattle.bits.specs.Fields.{join, bit, sized};
+ghost use Rattle.bits.specs.Fields.{join, bit};
+ghost use Rattle.std.proofs.Common.{lit<};
 ghost use Rattle.block.specs.Control.{bytes2, control2_of};
 
+use bits::Layout;
+
 // Control Field 2: where a block stands.
-#[derive(Clone, Copy, PartialEq, Eq, Debug)]
+#[derive(Clone, Copy, PartialEq, Eq, Debug, Default)]
 pub struct Control2 {
     // Reserved, 5 bits.
     pub reserved: u8,
@@ -30,64 +33,25 @@ pub struct Control2 {
     pub track: u8,
 }
 
-impl Control2 {
-    // The 16 bytes of the field; a value wider than its bits keeps its low ones.
-    pub fn to_bytes(self) -> [u8; 16]
-        ensures { result ≡ bytes2 self }
-    {
+impl Layout<16> for Control2 {
+    ghost bytes_of = { bytes2 };
+
+    ghost value_of = { control2_of };
+
+    ghost small = { lit< tt };
+
+    fn to_bytes(self) -> [u8; 16] {
         let [_, _, _, _, _, _, _, h0, h1, h2, h3, h4, h5, h6, h7, h8] = self.head().to_be_bytes();
         let [v0, v1] = self.envelope.to_be_bytes();
         let [_, t0, t1, t2] = self.tag.to_be_bytes();
-        let track = self.track_byte();
-        [
-            h0,
-            h1,
-            h2,
-            h3,
-            h4,
-            h5,
-            h6,
-            h7,
-            h8,
-            self.entity,
-            v0,
-            v1,
-            t0,
-            t1,
-            t2,
-            track,
-        ]
+        let e = self.entity;
+        let k = self.track_byte();
+        [h0, h1, h2, h3, h4, h5, h6, h7, h8, e, v0, v1, t0, t1, t2, k]
     }
 
-    // The field in 16 bytes; nothing for any other number of bytes.
-    pub fn from_bytes(bytes: &[u8]) -> Option<Control2>
-        ensures { result ≡ sized 16 bytes.now (control2_of bytes.now) }
-    {
-        bytes.as_array().map(Control2::read)
-    }
-
-    // The field in 16 bytes.
-    pub(crate) fn read(bytes: &[u8; 16]) -> Control2
-        ensures { result ≡ control2_of bytes.now }
-    {
-        let [
-            h0,
-            h1,
-            h2,
-            h3,
-            h4,
-            h5,
-            h6,
-            h7,
-            h8,
-            entity,
-            v0,
-            v1,
-            t0,
-            t1,
-            t2,
-            track,
-        ] = *bytes;
+    fn read(bytes: &[u8; 16]) -> Control2 {
+        #[rattlefmt::skip]
+        let [h0, h1, h2, h3, h4, h5, h6, h7, h8, entity, v0, v1, t0, t1, t2, track] = *bytes;
         let head = u128::from_be_bytes([0, 0, 0, 0, 0, 0, 0, h0, h1, h2, h3, h4, h5, h6, h7, h8]);
         Control2 {
             reserved: (head >> 67) as u8,
@@ -103,7 +67,9 @@ impl Control2 {
             track: track % 128,
         }
     }
+}
 
+impl Control2 {
     // Everything before the Entity Number.
     fn head(self) -> u128
         ensures { result ≡ join (5 ∷ 5 ∷ 32 ∷ 24 ∷ 5 ∷ 1 ∷ []) (self.reserved ∷ self.offset ∷ self.first ∷ self.place ∷ self.blocks ∷ bit self.starts ∷ []) }

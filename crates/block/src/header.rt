@@ -11,21 +11,6 @@ const FORMAT: u8 = 5;
 // Entity Offset of an end block.
 const END_OFFSET: u8 = 15;
 
-const NOTHING: Control1 = Control1 {
-    reserved: 0,
-    format: 0,
-    mark: 0,
-    compression: 0,
-    object: 0,
-    sequence: 0,
-    file_mark_offset: 0,
-    file_mark_number: 0,
-    kind: BlockType::Other(0),
-    early_warning: false,
-    entities: 0,
-    back: 0,
-};
-
 // What a data block says in Control Field 1.
 #[derive(Clone, Copy, PartialEq, Eq, Debug)]
 pub struct DataHeader {
@@ -74,7 +59,7 @@ impl From<DataHeader> for Control1 {
             kind: BlockType::Data,
             entities,
             back,
-            ..NOTHING
+            ..Control1::default()
         }
     }
 }
@@ -88,7 +73,7 @@ impl From<EndHeader> for Control1 {
             format: FORMAT,
             kind: BlockType::End,
             back: header.back,
-            ..NOTHING
+            ..Control1::default()
         }
     }
 }
@@ -99,17 +84,11 @@ impl From<EndHeader> for Control2 {
 
     fn from(header: EndHeader) -> Control2 {
         Control2 {
-            reserved: 0,
             offset: END_OFFSET,
-            first: 0,
             place: header.place,
-            blocks: 0,
-            starts: false,
-            entity: 0,
             envelope: header.envelope,
             tag: header.tag,
-            k: false,
-            track: 0,
+            ..Control2::default()
         }
     }
 }
@@ -122,6 +101,6 @@ pub(crate) fn check_control(entities: u8, back: u32) -> Control1
         kind: BlockType::Check,
         entities,
         back,
-        ..NOTHING
+        ..Control1::default()
     }
 }

@@ -1,9 +1,11 @@
 // Laws of the block, stated as contracts so that the check asks for their proofs.
+ghost use Rattle.block.specs.BlockType.{NumbersKept, TypesKept};
 ghost use Rattle.block.specs.Control.{Control1Decodes, Control1Encodes, Control2Decodes, Control2Encodes};
 ghost use Rattle.block.specs.Laws.{DataBlocksMade, CheckBlocksMade, EndBlocksMade};
 
-// Does nothing: its contract states that control fields go into their bytes and come out again.
+// Does nothing: its contract states that control fields go into their bytes and come out again, and types into numbers.
 pub fn controls_stand()
+    ensures types { (NumbersKept) × (TypesKept) }
     ensures control1 { (Control1Decodes) × (Control1Encodes) }
     ensures control2 { (Control2Decodes) × (Control2Encodes) }
 {}

@@ -9,6 +9,7 @@ use crate::control1::Control1;
 use crate::control2::Control2;
 use crate::edc::edc_of;
 use crate::layout::{CONTROL1_AT, CONTROL2_AT, CRC_AT, EDC_AT, FIELD_LEN};
+use bits::Layout;
 use crc::crc64;
 use refusal::{BLOCK_LEN, Refusal, exactly};
 

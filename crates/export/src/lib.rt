@@ -51,7 +51,6 @@ impl From<DataFields> for Control2 {
 
     fn from(fields: DataFields) -> Control2 {
         Control2 {
-            reserved: 0,
             offset: fields.offset,
             first: fields.first,
             place: fields.place,
@@ -60,8 +59,7 @@ impl From<DataFields> for Control2 {
             entity: fields.entity,
             envelope: fields.envelope,
             tag: fields.tag,
-            k: false,
-            track: 0,
+            ..Control2::default()
         }
     }
 }

@@ -64,17 +64,14 @@ const HEADER: DataHeader = DataHeader {
 
 fn first_of(blocks: u8) -> Control2 {
     Control2 {
-        reserved: 0,
         offset: 1,
         first: 1,
-        place: 0,
         blocks,
         starts: true,
         entity: 1,
         envelope: 1,
         tag: 1,
-        k: false,
-        track: 0,
+        ..Control2::default()
     }
 }
 

@@ -2,7 +2,7 @@
 use Rattle.std.proofs.Common.{◌≡◌, length, ℕ, ◌<◌, get_or, sym, ◌∙◌, arith, rules}
 use Rattle.bits.proofs.Numbers.{value_one, value_two, value_three, value_four, value-eight, value-nine}
 use Rattle.block.proofs.ControlRead.{control2_is}
-use Rattle.block.proofs.control2.Control2.read.Goals as goal
+use Rattle.block.proofs.control2.Control2Layout16.read.Goals as goal
 
 pub returns : goal.returns
 returns c =

@@ -2,7 +2,7 @@
 use Rattle.std.proofs.Common.{◌≡◌, length, ℕ, ◌<◌, get_or, sym, ◌∙◌, arith, rules}
 use Rattle.bits.proofs.Numbers.{value_one, value_two, value_three, value_four}
 use Rattle.block.proofs.ControlRead.{control1_is}
-use Rattle.block.proofs.control1.Control1.read.Goals as goal
+use Rattle.block.proofs.control1.Control1Layout20.read.Goals as goal
 
 pub returns : goal.returns
 returns c =
