@@ -1,6 +1,7 @@
 // Records laid out as the pages of one block, their MAP entries behind them.
 ghost use Rattle.std.specs.Prelude.{◌≡◌, ◌+◌, ◌-◌, ◌≤◌};
 
+use bits::Layout;
 use block::{BLOCK_LEN, FIELD_LEN};
 use pages::{ENTRY_LEN, Entry, MAX_FREE, PageType};
 use std::fmt;
@@ -76,13 +77,10 @@ impl Laying {
         self.back -= ENTRY_LEN;
         let entry = Entry {
             kind,
-            next: false,
-            prev: false,
             last: self.room() <= MAX_FREE,
-            compressed: false,
-            reserved: 0,
             count: count as u16,
             total: total as u32,
+            ..Entry::default()
         };
         self.block[self.back..self.back + ENTRY_LEN].copy_from_slice(&entry.to_bytes());
     }

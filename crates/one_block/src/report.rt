@@ -8,6 +8,8 @@ use pages::{Page, page_at};
 use std::io;
 use std::slice::Iter;
 
+// The place before the first envelope: all ONEs.
+const NO_LINK: u32 = 0xFF_FFFF;
 // The bytes that the CRC covers.
 const COVERED: usize = BLOCK_LEN - 8;
 // More pages than a block has.
@@ -17,38 +19,36 @@ const TURNED: usize = 17;
 
 const BIT: u8 = 0x10;
 
-// The first data block of a tape: there is no place before its envelope, which is said by all ONEs.
-const HEADER: DataHeader = DataHeader {
-    mark: 0,
-    object: 1,
-    sequence: 0,
-    entities: 1,
-    back: 0xFF_FFFF,
-};
-
-// Where it stands: the first of six blocks of the first envelope.
-const AT: Control2 = Control2 {
-    reserved: 0,
-    offset: 1,
-    first: 1,
-    place: 0,
-    blocks: 6,
-    starts: true,
-    entity: 1,
-    envelope: 1,
-    tag: 1,
-    k: false,
-    track: 0,
-};
-
-// Makes the first data block of a tape of it, and shows it. No call refuses an array of a block's length.
+// Seals the block and shows it. No call refuses an array of a block's length.
 pub fn show(rt: &HostRuntime, block: &mut [u8; BLOCK_LEN], records: &[Vec<u8>]) -> io::Result<()> {
-    make_data(block, HEADER, AT).unwrap();
+    seal(block);
     show_fields(rt, block)?;
     show_pages(rt, block, records)?;
     show_verdict(rt, "as made", block)?;
     block[TURNED] ^= BIT;
     show_verdict(rt, "one bit turned", block)
+}
+
+// Makes the first data block of a tape of it.
+fn seal(block: &mut [u8; BLOCK_LEN]) {
+    let header = DataHeader {
+        mark: 0,
+        object: 1,
+        sequence: 0,
+        entities: 1,
+        back: NO_LINK,
+    };
+    let at = Control2 {
+        offset: 1,
+        first: 1,
+        blocks: 6,
+        starts: true,
+        entity: 1,
+        envelope: 1,
+        tag: 1,
+        ..Control2::default()
+    };
+    make_data(block, header, at).unwrap();
 }
 
 fn show_fields(rt: &HostRuntime, block: &[u8; BLOCK_LEN]) -> io::Result<()> {

@@ -1,14 +1,14 @@
 -- A MAP entry goes into its eight bytes and comes out again. Assumes nothing.
-use Rattle.std.proofs.Common.{◌≡◌, ℕ, Bool, true, false, cond, eqb-true, ◌+◌, ◌-◌, ◌*◌, ◌/◌, ◌%◌, ◌^◌, ◌<◌, eqb, List, [], ◌∷◌, ◌++◌, length, get_or, take, drop, sym, refl, ap, ◌∙◌, mod-lt, div-one, arith, lit<, length-drop, length-take}
+use Rattle.std.proofs.Common.{◌≡◌, ℕ, ◌+◌, ◌-◌, ◌*◌, ◌/◌, ◌%◌, ◌^◌, ◌<◌, eqb, List, [], ◌∷◌, ◌++◌, length, get_or, take, drop, sym, refl, ap, ◌∙◌, mod-lt, div-one, arith, lit<, length-drop, length-take}
 use Rattle.bits.specs.Fields.{join, split, bytes, value, encode, decode, bit}
 use Rattle.pages.specs.PageType.{type_of, number_of}
 use Rattle.pages.specs.Entry.{entry_widths, entry_fields, from_entry_fields, entry_bytes, entry_of, EntryDecodes, EntryEncodes}
 use Rattle.pages.specs.declared.entry.Entry.{Entry}
+use Rattle.pages.proofs.PageTypes.{number_again}
 use Rattle.bits.proofs.BitLaws.{decode_encode, encode_decode}
 use Rattle.bits.proofs.Groups.{group, degroup, degroup_last}
 use Rattle.bits.proofs.Digits.{bytes_two, bytes_four, encode_one, decode_one}
 use Rattle.bits.proofs.BitLaws.{flag-bit, bit-flag}
-use Rattle.pages.specs.declared.page_type.PageType.TheVariants.{Filler, Data, TapeMark, Other}
 
 entry_fields_lem : (e : Entry) → type_of (number_of e.kind) ≡ e.kind → from_entry_fields (entry_fields e) ≡ e
 entry_fields_lem e k = λ i. record {
@@ -27,26 +27,16 @@ unfolding entry_bytes entry_of
 entry_decodes e h k =
     ap from_entry_fields (decode_encode entry_widths (entry_fields e) 8 refl h) ∙ entry_fields_lem e k
 
--- a number of three bits comes back from the type for which it stands
-pub number_back : (n : ℕ) → n < 8 → number_of (type_of n) ≡ n
-number_back n h =
-    let low : n % 8 ≡ n = omega arith in
-    go (eqb (n % 8) 1) (eqb (n % 8) 2) (eqb (n % 8) 3) refl refl refl ∙ low
-  where
-    go : (a b c : Bool) → eqb (n % 8) 1 ≡ a → eqb (n % 8) 2 ≡ b → eqb (n % 8) 3 ≡ c
-        → number_of (cond a Filler (cond b Data (cond c TapeMark (Other (n % 8))))) ≡ n % 8
-    go true b c p q r = sym (eqb-true (n % 8) 1 p)
-    go false true c p q r = sym (eqb-true (n % 8) 2 q)
-    go false false true p q r = sym (eqb-true (n % 8) 3 r)
-    go false false false p q r = refl
-
 fields_back : (x : ℕ) → entry_fields (from_entry_fields (split entry_widths x)) ≡ split entry_widths x
 fields_back x = λ i.
-    number_back (f 0) (mod-lt (x / 2 ^ 61) (lit< tt)) i ∷ bit-flag (f 1) (mod-lt (x / 2 ^ 60) (lit< tt)) i ∷ bit-flag (f 2) (mod-lt (x / 2 ^ 59) (lit< tt)) i
+    (number_again (f 0) ∙ low) i ∷ bit-flag (f 1) (mod-lt (x / 2 ^ 60) (lit< tt)) i ∷ bit-flag (f 2) (mod-lt (x / 2 ^ 59) (lit< tt)) i
     ∷ bit-flag (f 3) (mod-lt (x / 2 ^ 58) (lit< tt)) i ∷ bit-flag (f 4) (mod-lt (x / 2 ^ 57) (lit< tt)) i ∷ f 5 ∷ f 6 ∷ f 7 ∷ []
   where
     f : ℕ → ℕ
     f n = get_or (split entry_widths x) n 0
+
+    low : f 0 % 8 ≡ f 0
+    low = omega arith
 
 pub entry_encodes : EntryEncodes
 unfolding entry_bytes entry_of

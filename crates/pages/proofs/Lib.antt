@@ -1,3 +1,4 @@
+pub mod PageTypes
 pub mod EntryLaws
 pub mod MapSteps
 pub mod MapRule

@@ -3,7 +3,8 @@
 --   number_of t   the number that is written for the type t; only its low three bits are kept
 --   type_of n     the type that the low three bits of n stand for
 --   is_known t    t is Filler, Data or a tape mark
-use Rattle.std.specs.Prelude.{ℕ, ◌%◌, Bool, true, false, cond, ◌==◌}
+--   NumbersKept   the type of a number has that number; TypesKept, and is the type of its own number
+use Rattle.std.specs.Prelude.{◌≡◌, ℕ, ◌%◌, Bool, true, false, cond, ◌==◌}
 use Rattle.pages.specs.declared.page_type.PageType.{PageType}
 use Rattle.pages.specs.declared.page_type.PageType.TheVariants.{Filler, Data, TapeMark, Other}
 
@@ -21,3 +22,9 @@ is_known Filler = true
 is_known Data = true
 is_known TapeMark = true
 is_known (Other n) = false
+
+abbrev pub NumbersKept : Type 0
+NumbersKept = (n : ℕ) → number_of (type_of n) ≡ n % 8
+
+abbrev pub TypesKept : Type 0
+TypesKept = (n : ℕ) → type_of (number_of (type_of n)) ≡ type_of n

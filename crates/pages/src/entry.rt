@@ -1,15 +1,17 @@
 // A MAP entry: what one page of a block is.
 ghost use Rattle.std.specs.Prelude.{◌≡◌, [], ◌∷◌};
-ghost use Rattle.bits.specs.Fields.{join, bit, sized};
+ghost use Rattle.std.proofs.Common.{lit<};
+ghost use Rattle.bits.specs.Fields.{join, bit};
 ghost use Rattle.pages.specs.PageType.{number_of};
 ghost use Rattle.pages.specs.Entry.{entry_bytes, entry_of};
 
 use crate::page_type::PageType;
+use bits::Layout;
 
 // The bytes of an entry.
 pub const ENTRY_LEN: usize = 8;
 
-#[derive(Clone, Copy, PartialEq, Eq, Debug)]
+#[derive(Clone, Copy, PartialEq, Eq, Debug, Default)]
 pub struct Entry {
     // Page Type, 3 bits.
     pub kind: PageType,
@@ -29,28 +31,22 @@ pub struct Entry {
     pub total: u32,
 }
 
-impl Entry {
-    // The eight bytes of the entry; a value wider than its bits keeps its low ones.
-    pub fn to_bytes(self) -> [u8; ENTRY_LEN]
-        ensures { result ≡ entry_bytes self }
-    {
+impl Layout<ENTRY_LEN> for Entry {
+    ghost bytes_of = { entry_bytes };
+
+    ghost value_of = { entry_of };
+
+    ghost small = { lit< tt };
+
+    fn to_bytes(self) -> [u8; ENTRY_LEN] {
         let [f0, f1] = self.flags().to_be_bytes();
         let [c0, c1] = self.count.to_be_bytes();
         let [t0, t1, t2, t3] = self.total.to_be_bytes();
         [f0, f1, c0, c1, t0, t1, t2, t3]
     }
 
-    // The entry in eight bytes; nothing for any other number of bytes.
-    pub fn from_bytes(bytes: &[u8]) -> Option<Entry>
-        ensures { result ≡ sized 8 bytes.now (entry_of bytes.now) }
-    {
-        bytes.as_array().map(Entry::read)
-    }
-
-    // The entry in eight bytes: two of type and flags, two of Page Byte Count, four of Record Byte Count.
-    pub(crate) fn read(bytes: &[u8; ENTRY_LEN]) -> Entry
-        ensures { result ≡ entry_of bytes.now }
-    {
+    // Two bytes of type and flags, two of Page Byte Count, four of Record Byte Count.
+    fn read(bytes: &[u8; ENTRY_LEN]) -> Entry {
         let [f0, f1, c0, c1, t0, t1, t2, t3] = *bytes;
         let flags = u16::from_be_bytes([f0, f1]);
         Entry {
@@ -64,7 +60,9 @@ impl Entry {
             total: u32::from_be_bytes([t0, t1, t2, t3]),
         }
     }
+}
 
+impl Entry {
     // Page Type, the four flags and the reserved bits.
     fn flags(self) -> u16
         ensures { result ≡ join (3 ∷ 1 ∷ 1 ∷ 1 ∷ 1 ∷ 9 ∷ []) (number_of self.kind ∷ bit self.next ∷ bit self.prev ∷ bit self.last ∷ bit self.compressed ∷ self.reserved ∷ []) }

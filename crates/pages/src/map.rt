@@ -4,6 +4,7 @@ ghost use Rattle.pages.specs.Map.{entry_at, lawful_entry, map_step, map_size, pa
 
 use crate::entry::{ENTRY_LEN, Entry};
 use crate::page_type::PageType;
+use bits::Layout;
 use block::FIELD_LEN;
 
 // With this many bytes free or fewer no page starts.

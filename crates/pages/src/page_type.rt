@@ -14,6 +14,15 @@ pub enum PageType {
     Other(u8),
 }
 
+// Where nothing is said the bits are ZERO.
+impl Default for PageType {
+    ghost is_default = { λ t. t ≡ type_of 0 };
+
+    fn default() -> PageType {
+        PageType::Other(0)
+    }
+}
+
 // The low three bits of the number decide.
 impl From<u8> for PageType {
     ghost from_gives = { λ n t. t ≡ type_of n };

@@ -2,7 +2,7 @@
 use Rattle.std.proofs.Common.{ℕ, ◌<◌, get_or, sym, ◌∙◌, arith, rules}
 use Rattle.bits.proofs.Numbers.{value_two, value_four}
 use Rattle.pages.proofs.EntryLaws.{entry_is}
-use Rattle.pages.proofs.entry.Entry.read.Goals as goal
+use Rattle.pages.proofs.entry.EntryLayoutENTRY_LEN.read.Goals as goal
 
 pub returns : goal.returns
 returns c =
