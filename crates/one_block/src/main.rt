@@ -3,11 +3,12 @@
 
 use std::io;
 
+mod lay;
 mod laying;
 mod records;
 mod report;
 
-use laying::lay;
+use lay::lay;
 use records::read_records;
 use report::show;
 
