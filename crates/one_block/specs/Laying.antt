@@ -2,7 +2,8 @@
 --
 --   put xs at ys               xs with ys in place of what stood from `at` on
 --   Laid                       a block, and where the free bytes of its Data Field begin and end
---   entry_of_page k c n room   the entry of a page of the type k and c bytes, of a record of n, before so many free bytes
+--   laid x                     the same of a block in the making; room s, how many bytes are free
+--   entry_of_page k c n left   the entry of a page of the type k and c bytes, of a record of n, before so many free bytes
 --   with_page s k bs c n       s with a page of c bytes more: the bytes bs, then what stood there; and with its entry
 --   fits s bs                  a page of the whole record bs can be laid
 --   with_records s rs          s with a page for each of the records rs, if they fit
