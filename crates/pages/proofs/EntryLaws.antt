@@ -1,16 +1,18 @@
 -- A MAP entry goes into its eight bytes and comes out again. Assumes nothing.
 use Rattle.std.proofs.Common.{◌≡◌, ℕ, ◌+◌, ◌-◌, ◌*◌, ◌/◌, ◌%◌, ◌^◌, ◌<◌, eqb, List, [], ◌∷◌, ◌++◌, length, get_or, take, drop, sym, refl, ap, ◌∙◌, mod-lt, div-one, arith, lit<, length-drop, length-take}
 use Rattle.bits.specs.Fields.{join, split, bytes, value, encode, decode, bit}
+use Rattle.pages.specs.PageType.{type_of, number_of}
 use Rattle.pages.specs.Entry.{entry_widths, entry_fields, from_entry_fields, entry_bytes, entry_of, EntryDecodes, EntryEncodes}
 use Rattle.pages.specs.declared.entry.Entry.{Entry}
+use Rattle.pages.proofs.PageTypes.{number_again}
 use Rattle.bits.proofs.BitLaws.{decode_encode, encode_decode}
 use Rattle.bits.proofs.Groups.{group, degroup, degroup_last}
 use Rattle.bits.proofs.Digits.{bytes_two, bytes_four, encode_one, decode_one}
 use Rattle.bits.proofs.BitLaws.{flag-bit, bit-flag}
 
-entry_fields_lem : (e : Entry) → from_entry_fields (entry_fields e) ≡ e
-entry_fields_lem e = λ i. record {
-  kind = e.kind;
+entry_fields_lem : (e : Entry) → type_of (number_of e.kind) ≡ e.kind → from_entry_fields (entry_fields e) ≡ e
+entry_fields_lem e k = λ i. record {
+  kind = k i;
   next = flag-bit e.next i;
   prev = flag-bit e.prev i;
   last = flag-bit e.last i;
@@ -22,15 +24,19 @@ entry_fields_lem e = λ i. record {
 
 pub entry_decodes : EntryDecodes
 unfolding entry_bytes entry_of
-entry_decodes e h = ap from_entry_fields (decode_encode entry_widths (entry_fields e) 8 refl h) ∙ entry_fields_lem e
+entry_decodes e h k =
+    ap from_entry_fields (decode_encode entry_widths (entry_fields e) 8 refl h) ∙ entry_fields_lem e k
 
 fields_back : (x : ℕ) → entry_fields (from_entry_fields (split entry_widths x)) ≡ split entry_widths x
 fields_back x = λ i.
-    f 0 ∷ bit-flag (f 1) (mod-lt (x / 2 ^ 60) (lit< tt)) i ∷ bit-flag (f 2) (mod-lt (x / 2 ^ 59) (lit< tt)) i
+    (number_again (f 0) ∙ low) i ∷ bit-flag (f 1) (mod-lt (x / 2 ^ 60) (lit< tt)) i ∷ bit-flag (f 2) (mod-lt (x / 2 ^ 59) (lit< tt)) i
     ∷ bit-flag (f 3) (mod-lt (x / 2 ^ 58) (lit< tt)) i ∷ bit-flag (f 4) (mod-lt (x / 2 ^ 57) (lit< tt)) i ∷ f 5 ∷ f 6 ∷ f 7 ∷ []
   where
     f : ℕ → ℕ
     f n = get_or (split entry_widths x) n 0
+
+    low : f 0 % 8 ≡ f 0
+    low = omega arith
 
 pub entry_encodes : EntryEncodes
 unfolding entry_bytes entry_of
@@ -41,7 +47,7 @@ entry_encodes bs l h =
 
 abbrev flags : Entry → ℕ
 flags e = join (3 ∷ 1 ∷ 1 ∷ 1 ∷ 1 ∷ 9 ∷ [])
-    (e.kind ∷ bit e.next ∷ bit e.prev ∷ bit e.last ∷ bit e.compressed ∷ e.reserved ∷ [])
+    (number_of e.kind ∷ bit e.next ∷ bit e.prev ∷ bit e.last ∷ bit e.compressed ∷ e.reserved ∷ [])
 
 groups : (e : Entry) → entry_bytes e ≡ bytes 2 (flags e) ++ (bytes 2 e.count ++ bytes 4 e.total)
 unfolding entry_bytes
@@ -72,7 +78,7 @@ entry-groups bs l =
 
 pub entry_is : (bs : List ℕ) → length bs ≡ 8 → (f count total : ℕ) → f ≡ at bs 0 2 → count ≡ at bs 2 2 → total ≡ at bs 4 4 → f < 2 ^ 16
     → entry_of bs ≡ record {
-      kind = f / 8192;
+      kind = type_of (f / 8192);
       next = eqb (f / 4096 % 2) 1;
       prev = eqb (f / 2048 % 2) 1;
       last = eqb (f / 1024 % 2) 1;
@@ -85,7 +91,7 @@ unfolding entry_of
 entry_is bs l f count total ef ec et lf =
     ap from_entry_fields (entry-groups bs l)
     ∙ (λ i. record {
-      kind = kind i;
+      kind = type_of (kind i);
       next = eqb (sym ef i / 4096 % 2) 1;
       prev = eqb (sym ef i / 2048 % 2) 1;
       last = eqb (sym ef i / 1024 % 2) 1;

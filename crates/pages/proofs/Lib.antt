@@ -1,4 +1,5 @@
+pub mod PageTypes
 pub mod EntryLaws
 pub mod MapSteps
 pub mod MapRule
-pub mod PageLaws
+pub mod Slots

@@ -4,12 +4,12 @@ use borrow.Author.Tests.{eqb-false}
 use Rattle.pages.specs.Map.{entry_at, lawful_entry, map_step, map_from, map_size, page_start, pages_and_entries, LawfulMap, MapsByRule}
 use Rattle.pages.specs.declared.entry.Entry.{Entry}
 use Rattle.pages.specs.declared.map.Step.{Step}
-use Rattle.pages.specs.declared.map.Step.TheVariants.{Unlawful, Last, Next}
+use Rattle.pages.specs.declared.map.Step.TheVariants.{Last, Next}
 use Rattle.pages.proofs.MapSteps.{follow, map-follows, start_more}
 
 -- what an entry says, by its four tests
-abbrev step_of : Bool → Bool → Bool → Bool → ℕ → Step
-step_of law fits last small rest = cond (law && fits) (cond last (cond small Last Unlawful) (Next rest)) Unlawful
+abbrev step_of : Bool → Bool → Bool → Bool → ℕ → Option Step
+step_of law fits last small rest = cond (law && fits) (cond last (cond small (Some Last) None) (Some (Next rest))) None
 
 -- the rule, of the entries from i on
 pub record From (field : List ℕ) (i n : ℕ) : Type 0 where
@@ -25,12 +25,6 @@ entry_more field i = ap (λ (s : ℕ). s + 8 * (i + 1)) (start_more field i) ∙
   where
     flat : (s c i : ℕ) → s + c + 8 * (i + 1) ≡ s + 8 * i + (c + 8)
     flat s c i = omega arith
-
-none_some : (n : ℕ) → ◌≡◌ {A = Option ℕ} None (Some n) → ⊥
-none_some n e = let z : ◌≡◌ {A = ℕ} 0 1 = cc in omega arith
-
-some_some : (m n : ℕ) → ◌≡◌ {A = Option ℕ} (Some m) (Some n) → m ≡ n
-some_some m n e = cc
 
 -- an entry at i before the entries from i + 1 on
 from_one : (field : List ℕ) (i n : ℕ) → (entry_at field i).last ≡ false → lawful_entry (eqb i 0) (entry_at field i) ≡ true
@@ -62,7 +56,7 @@ last_one field i free e el ew hf hs = record {
 
 pub from_map : (left free i n : ℕ) (field : List ℕ) → pages_and_entries field i + free ≡ 8208 → map_from left free i field ≡ Some n → From field i n
 unfolding map_from
-from_map zero free i n field e m = absurd (none_some n m)
+from_map zero free i n field e m = cc
 from_map (suc left) free i n field e m =
     go (lawful_entry (eqb i 0) x) (leb (x.count + 8) free) x.last (leb (free - (x.count + 8)) 16) refl refl refl refl
     (sym (map-follows left free i field) ∙ m) (λ h k. from_map left (free - (x.count + 8)) (i + 1) n field h k)
@@ -75,11 +69,11 @@ from_map (suc left) free i n field e m =
         → follow (step_of law fits last small (free - (x.count + 8))) i (λ f. map_from left f (i + 1) field) ≡ Some n
         → (pages_and_entries field (i + 1) + (free - (x.count + 8)) ≡ 8208 → map_from left (free - (x.count + 8)) (i + 1) field ≡ Some n → From field (i + 1) n)
         → From field i n
-    go false fits last small ew ef el es k ih = absurd (none_some n k)
-    go true false last small ew ef el es k ih = absurd (none_some n k)
-    go true true true false ew ef el es k ih = absurd (none_some n k)
+    go false fits last small ew ef el es k ih = cc
+    go true false last small ew ef el es k ih = cc
+    go true true true false ew ef el es k ih = cc
     go true true true true ew ef el es k ih =
-        subst (From field i) (some_some (i + 1) n k)
+        let e' : i + 1 ≡ n = cc in subst (From field i) e'
         (last_one field i free e el ew (leb-true (x.count + 8) free ef) (leb-true (free - (x.count + 8)) 16 es))
     go true true false small ew ef el es k ih =
         from_one field i n el ew (ih (omega (arith, entry_more field i, leb-true (x.count + 8) free ef)) k)
@@ -123,9 +117,9 @@ rule-map field n w (suc left) free i h k e =
         let s : leb (free - (x.count + 8)) 16 ≡ true =
         le-leb (free - (x.count + 8)) 16
         (omega (arith, entry_more field i, w.full, ap (pages_and_entries field) r)) in
-        ap (λ (t : Step). follow t i (λ f. map_from left f (i + 1) field)) (tests true true (w.last i h ∙ eb) s) ∙ ap Some r
+        ap (λ (t : Option Step). follow t i (λ f. map_from left f (i + 1) field)) (tests true true (w.last i h ∙ eb) s) ∙ ap Some r
     go false eb ih =
-        ap (λ (t : Step). follow t i (λ f. map_from left f (i + 1) field))
+        ap (λ (t : Option Step). follow t i (λ f. map_from left f (i + 1) field))
         (tests false (leb (free - (x.count + 8)) 16) (w.last i h ∙ eb) refl)
         ∙ ih (let apart : i + 1 ≡ n → ⊥ = eqb-false (i + 1) n eb in omega arith)
         (omega (arith, entry_more field i, leb-true (x.count + 8) free fits))

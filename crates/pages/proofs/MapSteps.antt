@@ -2,41 +2,34 @@
 use Rattle.std.proofs.Common.{◌≡◌, ℕ, suc, ◌+◌, ◌-◌, ◌<◌, ◌≤◌, eqb, List, Some, None, Option, sym, refl, ap, ◌∙◌, arith}
 use Rattle.pages.specs.Map.{entry_at, map_step, map_from, map_size, page_start}
 use Rattle.pages.specs.declared.map.Step.{Step}
-use Rattle.pages.specs.declared.map.Step.TheVariants.{Unlawful, Last, Next}
+use Rattle.pages.specs.declared.map.Step.TheVariants.{Last, Next}
 
 -- the map from entry i on, by what the entry says
-abbrev pub follow : Step → ℕ → (ℕ → Option ℕ) → Option ℕ
-follow Unlawful i more = None
-follow Last i more = Some (i + 1)
-follow (Next free) i more = more free
+abbrev pub follow : Option Step → ℕ → (ℕ → Option ℕ) → Option ℕ
+follow None i more = None
+follow (Some Last) i more = Some (i + 1)
+follow (Some (Next free)) i more = more free
 
 pub map-follows : (left free i : ℕ) (field : List ℕ)
     → map_from (suc left) free i field ≡ follow (map_step free (eqb i 0) (entry_at field i)) i (λ f. map_from left f (i + 1) field)
 unfolding map_from
 map-follows left free i field = go (map_step free (eqb i 0) (entry_at field i))
   where
-    go : (s : Step) → elim s [ Unlawful ↦ None | Last ↦ Some (i + 1) | Next rest ↦ map_from left rest (i + 1) field ]
+    go : (s : Option Step)
+        → elim s [ None ↦ None | Some Last ↦ Some (i + 1) | Some (Next rest) ↦ map_from left rest (i + 1) field ]
         ≡ follow s i (λ f. map_from left f (i + 1) field)
-    go Unlawful = refl
-    go Last = refl
-    go (Next rest) = refl
+    go None = refl
+    go (Some Last) = refl
+    go (Some (Next rest)) = refl
 
-module _ (field : List ℕ) (free i : ℕ) (s : Step) (h : i < 1026) (s-is : s ≡ map_step free (eqb i 0) (entry_at field i))
-    (inv : map_from (1026 - i) free i field ≡ map_size field) where
-  by_step : follow s i (λ f. map_from (1026 - (i + 1)) f (i + 1) field) ≡ map_size field
-  by_step =
-      let one : 1026 - i ≡ suc (1026 - (i + 1)) = omega arith in
-      ap (λ (t : Step). follow t i (λ f. map_from (1026 - (i + 1)) f (i + 1) field)) s-is
-      ∙ sym (map-follows (1026 - (i + 1)) free i field) ∙ ap (λ (n : ℕ). map_from n free i field) (sym one) ∙ inv
-
-  pub map_unlawful : s ≡ Unlawful → None ≡ map_size field
-  map_unlawful e = sym (ap (λ (t : Step). follow t i (λ f. map_from (1026 - (i + 1)) f (i + 1) field)) e) ∙ by_step
-
-  pub map_last : s ≡ Last → Some (i + 1) ≡ map_size field
-  map_last e = sym (ap (λ (t : Step). follow t i (λ f. map_from (1026 - (i + 1)) f (i + 1) field)) e) ∙ by_step
-
-  pub map_next : (rest : ℕ) → s ≡ Next rest → map_from (1026 - (i + 1)) rest (i + 1) field ≡ map_size field
-  map_next rest e = sym (ap (λ (t : Step). follow t i (λ f. map_from (1026 - (i + 1)) f (i + 1) field)) e) ∙ by_step
+-- what is left of the map behind an entry is the map, if it was so before it
+pub by_step : (field : List ℕ) (free i : ℕ) (s : Option Step) → i < 1026
+    → s ≡ map_step free (eqb i 0) (entry_at field i) → map_from (1026 - i) free i field ≡ map_size field
+    → follow s i (λ f. map_from (1026 - (i + 1)) f (i + 1) field) ≡ map_size field
+by_step field free i s h e inv =
+    let one : 1026 - i ≡ suc (1026 - (i + 1)) = omega arith in
+    ap (λ (t : Option Step). follow t i (λ f. map_from (1026 - (i + 1)) f (i + 1) field)) e
+    ∙ sym (map-follows (1026 - (i + 1)) free i field) ∙ ap (λ (n : ℕ). map_from n free i field) (sym one) ∙ inv
 
 pub map_spent : (field : List ℕ) (free i : ℕ) → 1026 ≤ i → map_from (1026 - i) free i field ≡ map_size field → None ≡ map_size field
 unfolding map_from

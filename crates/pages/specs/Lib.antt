@@ -1,3 +1,4 @@
+pub mod PageType
 pub mod Entry
 pub mod Map
 pub mod Page

@@ -8,7 +8,8 @@ use Rattle.std.specs.Prelude.{ℕ, ◌-◌, cond, ◌&&◌, List, [], ◌∷◌,
 use Rattle.refusal.specs.Tells.{Answer, tells}
 use Rattle.refusal.specs.declared.Refusal.{Refusal}
 use Rattle.block.specs.Block.{data_field, block_len}
-use Rattle.pages.specs.Map.{entry_at, is_data, map_size, page_start}
+use Rattle.pages.specs.Map.{entry_at, map_size, page_start}
+use Rattle.pages.specs.declared.page_type.PageType.TheVariants as kinds
 use Rattle.pages.specs.declared.entry.Entry.{Entry}
 use Rattle.pages.specs.declared.page.Page.{Page as Pages}
 use Rattle.pages.specs.declared.page.Page.TheVariants.{Data, Filler, TapeMark}
@@ -29,8 +30,11 @@ viewed (Err e) = Err (tells e)
 
 abbrev pub page_of : List ℕ → Entry → ℕ → View
 page_of field e place =
-    cond (is_data e) (data_at (take e.count (drop place field)) place)
-    (cond (e.kind == 3) (mark_at place e.count) (filler_at place e.count))
+    elim e.kind [
+      | kinds.Data ↦ data_at (take e.count (drop place field)) place
+      | kinds.TapeMark ↦ mark_at place e.count
+      | _ ↦ filler_at place e.count
+    ]
 
 abbrev pub page_is : List ℕ → ℕ → View
 page_is field k = page_of field (entry_at field k) (page_start field k)

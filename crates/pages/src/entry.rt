@@ -1,19 +1,20 @@
 // A MAP entry: what one page of a block is.
-ghost use Rattle.std.specs.Prelude.{◌≡◌, [], ◌∷◌, length};
-ghost use Rattle.bits.specs.Fields.{join, bit, sized};
+ghost use Rattle.std.specs.Prelude.{◌≡◌, [], ◌∷◌};
+ghost use Rattle.std.proofs.Common.{lit<};
+ghost use Rattle.bits.specs.Fields.{join, bit};
+ghost use Rattle.pages.specs.PageType.{number_of};
 ghost use Rattle.pages.specs.Entry.{entry_bytes, entry_of};
 
-// Page Type of a page that only fills the block up.
-pub const FILLER: u8 = 1;
-// Page Type of a page that holds bytes of a record.
-pub const DATA: u8 = 2;
-// Page Type of a tape mark.
-pub const TAPE_MARK: u8 = 3;
+use crate::page_type::PageType;
+use bits::Layout;
 
-#[derive(Clone, Copy, Drop)]
+// The bytes of an entry.
+pub const ENTRY_LEN: usize = 8;
+
+#[derive(Clone, Copy, PartialEq, Eq, Debug, Default)]
 pub struct Entry {
     // Page Type, 3 bits.
-    pub kind: u8,
+    pub kind: PageType,
     // N: the record goes on in the next data block.
     pub next: bool,
     // P: the record does not start in this data block.
@@ -30,53 +31,43 @@ pub struct Entry {
     pub total: u32,
 }
 
-impl Entry {
-    // The eight bytes of the entry; a value wider than its bits keeps its low ones.
-    pub fn to_bytes(self) -> [u8; 8]
-        ensures { result ≡ entry_bytes self }
-    {
+impl Layout<ENTRY_LEN> for Entry {
+    ghost bytes_of = { entry_bytes };
+
+    ghost value_of = { entry_of };
+
+    ghost small = { lit< tt };
+
+    fn to_bytes(self) -> [u8; ENTRY_LEN] {
         let [f0, f1] = self.flags().to_be_bytes();
         let [c0, c1] = self.count.to_be_bytes();
         let [t0, t1, t2, t3] = self.total.to_be_bytes();
         [f0, f1, c0, c1, t0, t1, t2, t3]
     }
 
-    // The entry in eight bytes; nothing for any other number of bytes.
-    pub fn from_bytes(bytes: &[u8]) -> Option<Entry>
-        ensures { result ≡ sized 8 bytes.now (entry_of bytes.now) }
-    {
-        if bytes.len() != 8 {
-            return None;
-        }
-        Some(Entry::read(bytes))
-    }
-
-    // The entry in eight bytes: two of type and flags, two of Page Byte Count, four of Record Byte Count.
-    pub(crate) fn read(bytes: &[u8]) -> Entry
-        requires { length bytes.now ≡ 8 }
-        ensures { result ≡ entry_of bytes.now }
-    {
-        let [f0, f1, c0, c1, t0, t1, t2, t3] = bytes else {
-            unreachable()
-        };
-        let flags = u16::from_be_bytes([*f0, *f1]);
+    // Two bytes of type and flags, two of Page Byte Count, four of Record Byte Count.
+    fn read(bytes: &[u8; ENTRY_LEN]) -> Entry {
+        let [f0, f1, c0, c1, t0, t1, t2, t3] = *bytes;
+        let flags = u16::from_be_bytes([f0, f1]);
         Entry {
-            kind: (flags / 8192) as u8,
+            kind: PageType::from((flags / 8192) as u8),
             next: flags / 4096 % 2 == 1,
             prev: flags / 2048 % 2 == 1,
             last: flags / 1024 % 2 == 1,
             compressed: flags / 512 % 2 == 1,
             reserved: flags % 512,
-            count: u16::from_be_bytes([*c0, *c1]),
-            total: u32::from_be_bytes([*t0, *t1, *t2, *t3]),
+            count: u16::from_be_bytes([c0, c1]),
+            total: u32::from_be_bytes([t0, t1, t2, t3]),
         }
     }
+}
 
+impl Entry {
     // Page Type, the four flags and the reserved bits.
     fn flags(self) -> u16
-        ensures { result ≡ join (3 ∷ 1 ∷ 1 ∷ 1 ∷ 1 ∷ 9 ∷ []) (self.kind ∷ bit self.next ∷ bit self.prev ∷ bit self.last ∷ bit self.compressed ∷ self.reserved ∷ []) }
+        ensures { result ≡ join (3 ∷ 1 ∷ 1 ∷ 1 ∷ 1 ∷ 9 ∷ []) (number_of self.kind ∷ bit self.next ∷ bit self.prev ∷ bit self.last ∷ bit self.compressed ∷ self.reserved ∷ []) }
     {
-        u16::from(self.kind % 8) * 8192
+        u16::from(u8::from(self.kind) % 8) * 8192
             + u16::from(self.next) * 4096
             + u16::from(self.prev) * 2048
             + u16::from(self.last) * 1024

@@ -5,7 +5,10 @@ mod entry;
 mod laws;
 mod map;
 mod page;
+mod page_type;
 
-pub use entry::{DATA, Entry, FILLER, TAPE_MARK};
+pub use entry::{ENTRY_LEN, Entry};
 pub use laws::{entries_stand, maps_stand};
+pub use map::MAX_FREE;
 pub use page::{Page, page_at};
+pub use page_type::PageType;

@@ -1,24 +1,22 @@
 // The map of a Data Field: which pages a block has.
-ghost use Rattle.std.specs.Prelude.{◌≡◌, ◌+◌, ◌*◌, ◌<◌, ◌≤◌, length};
+ghost use Rattle.std.specs.Prelude.{◌≡◌, ℕ, ◌+◌, ◌*◌, ◌<◌, ◌≤◌, [], length, take, drop, slice_index_or};
 ghost use Rattle.pages.specs.Map.{entry_at, lawful_entry, map_step, map_size, page_start};
 
-use crate::entry::{DATA, Entry, TAPE_MARK};
+use crate::entry::{ENTRY_LEN, Entry};
+use crate::page_type::PageType;
+use bits::Layout;
 use block::FIELD_LEN;
 
-// The bytes of an entry.
-const ENTRY_LEN: usize = 8;
-// No block has room for more entries.
-const MAX_ENTRIES: usize = 1026;
 // With this many bytes free or fewer no page starts.
-const MAX_FREE: usize = 16;
+pub const MAX_FREE: usize = 16;
+// No block has room for more entries.
+const MAX_ENTRIES: usize = FIELD_LEN / ENTRY_LEN;
 // The bytes of the longest record.
 const MAX_RECORD: u32 = 1_048_576;
 
-// What an entry says of the map.
-#[derive(Clone, Copy, Drop)]
+// What a lawful entry says of the map.
+#[derive(Clone, Copy)]
 pub enum Step {
-    // The map is not lawful.
-    Unlawful,
     // The map ends here.
     Last,
     // Another entry follows, and so many bytes are free.
@@ -26,14 +24,12 @@ pub enum Step {
 }
 
 // How many entries the map of a Data Field has, if it is lawful.
-pub(crate) fn map_size(field: &[u8]) -> Option<usize>
-    requires { length field.now ≡ 8208 }
+pub(crate) fn map_size(field: &[u8; FIELD_LEN]) -> Option<usize>
     ensures { result ≡ map_size field.now }
 {
     let mut free = FIELD_LEN;
-    for i in 0..MAX_ENTRIES {
-        match judge_entry(free, i == 0, entry_in(field, i)) {
-            Step::Unlawful => return None,
+    for (i, bytes) in slots(field).iter().rev().enumerate() {
+        match judge_entry(free, i == 0, Entry::read(bytes))? {
             Step::Last => return Some(i + 1),
             Step::Next(rest) => free = rest,
         }
@@ -42,41 +38,45 @@ pub(crate) fn map_size(field: &[u8]) -> Option<usize>
 }
 
 // Where the page behind the first `count` pages starts.
-pub(crate) fn start_of(field: &[u8], count: usize) -> usize
-    requires size { length field.now ≡ 8208 }
-    requires few { count ≤ 1026 }
+pub(crate) fn start_of(field: &[u8; FIELD_LEN], count: usize) -> usize
+    requires { count ≤ 1026 }
     ensures { result ≡ page_start field.now count }
 {
-    let mut start = 0;
-    for i in 0..count {
-        start += usize::from(entry_in(field, i).count);
-    }
-    start
+    slots(field)[MAX_ENTRIES - count..]
+        .iter()
+        .map(|bytes| usize::from(Entry::read(bytes).count))
+        .sum()
 }
 
 // The i-th entry, from 0.
-pub(crate) fn entry_in(field: &[u8], i: usize) -> Entry
-    requires size { length field.now ≡ 8208 }
-    requires within { i < 1026 }
+pub(crate) fn entry_in(field: &[u8; FIELD_LEN], i: usize) -> Entry
+    requires { i < 1026 }
     ensures { result ≡ entry_at field.now i }
 {
-    let at = FIELD_LEN - ENTRY_LEN * (i + 1);
-    Entry::read(&field[at..at + ENTRY_LEN])
+    Entry::read(&slots(field)[MAX_ENTRIES - 1 - i])
 }
 
-// What an entry says, where `free` bytes are free.
-fn judge_entry(free: usize, first: bool, e: Entry) -> Step
+// The Data Field by the places that entries can have, from the front: the first entry stands in the last.
+fn slots(field: &[u8; FIELD_LEN]) -> &[[u8; ENTRY_LEN]]
+    ensures count { length result.now ≡ 1026 }
+    ensures each { (k : ℕ) → k < 1026 → slice_index_or result.now k [] ≡ take 8 (drop (8 * k) field.now) }
+{
+    field.as_chunks().0
+}
+
+// What an entry says, where `free` bytes are free; nothing if the map is then not lawful.
+fn judge_entry(free: usize, first: bool, e: Entry) -> Option<Step>
     ensures { result ≡ map_step free first e }
 {
-    let taken = usize::from(e.count) + ENTRY_LEN;
-    if !is_lawful(first, e) || taken > free {
-        Step::Unlawful
+    let rest = free.checked_sub(usize::from(e.count) + ENTRY_LEN)?;
+    if !is_lawful(first, e) {
+        None
     } else if !e.last {
-        Step::Next(free - taken)
-    } else if free - taken <= MAX_FREE {
-        Step::Last
+        Some(Step::Next(rest))
+    } else if rest <= MAX_FREE {
+        Some(Step::Last)
     } else {
-        Step::Unlawful
+        None
     }
 }
 
@@ -84,17 +84,15 @@ fn judge_entry(free: usize, first: bool, e: Entry) -> Step
 fn is_lawful(first: bool, e: Entry) -> bool
     ensures { result ≡ lawful_entry first e }
 {
-    let data = e.kind == DATA;
-    1 <= e.kind
-        && e.kind <= TAPE_MARK
-        && !e.compressed
+    let data = e.kind == PageType::Data;
+    !e.compressed
         && e.reserved == 0
         && 1 <= e.count
         && (!e.prev || (first && data))
         && (!e.next || (e.last && data))
-        && if data {
-            1 <= e.total && e.total <= MAX_RECORD
-        } else {
-            e.last && e.total == 0
+        && match e.kind {
+            PageType::Data => (1..=MAX_RECORD).contains(&e.total),
+            PageType::Filler | PageType::TapeMark => e.last && e.total == 0,
+            PageType::Other(_) => false,
         }
 }

@@ -1,15 +1,17 @@
 // The page call: one page of a block, as a part of that block.
 ghost use Rattle.std.specs.Prelude.{◌≡◌, ◌+◌, ◌≤◌, length, Some};
+ghost use Rattle.block.specs.Block.{data_field};
 ghost use Rattle.pages.specs.Map.{map_size};
 ghost use Rattle.pages.specs.Page.{view, viewed, page_of, page_among, page_answer};
 
-use crate::entry::{DATA, Entry, TAPE_MARK};
+use crate::entry::Entry;
 use crate::map::{entry_in, map_size, start_of};
-use block::{BLOCK_LEN, FIELD_LEN};
-use refusal::{Refusal, check_length};
+use crate::page_type::PageType;
+use block::FIELD_LEN;
+use refusal::{BLOCK_LEN, Refusal, exactly};
 
 // A page of a block; its place is the byte of the block where it starts, from 0.
-#[derive(Clone, Copy)]
+#[derive(Clone, Copy, PartialEq, Eq, Debug)]
 pub enum Page<'a> {
     // Bytes of a record.
     Data { bytes: &'a [u8], place: usize },
@@ -23,31 +25,26 @@ pub enum Page<'a> {
 pub fn page_at(block: &[u8], number: usize) -> Result<Page<'_>, Refusal>
     ensures { viewed result ≡ page_answer block.now number }
 {
-    check_length(block.len(), BLOCK_LEN)?;
-    page_in(&block[0..FIELD_LEN], number)
+    let block: &[u8; BLOCK_LEN] = exactly(block)?;
+    page_in(data_field(block), number)
+}
+
+// The Data Field of a block.
+fn data_field(block: &[u8; BLOCK_LEN]) -> &[u8; FIELD_LEN]
+    ensures { result.now ≡ data_field block.now }
+{
+    block.first_chunk().unwrap()
 }
 
 // The same of a Data Field.
-fn page_in(field: &[u8], number: usize) -> Result<Page<'_>, Refusal>
-    requires { length field.now ≡ 8208 }
+fn page_in(field: &[u8; FIELD_LEN], number: usize) -> Result<Page<'_>, Refusal>
     ensures { viewed result ≡ page_among field.now (map_size field.now) number }
 {
-    match map_size(field) {
-        None => Err(Refusal::Unlawful {
-            envelope: 0,
-            entity: 0,
-            block: 0,
-        }),
-        Some(pages) => page_of(field, pages, number),
-    }
-}
-
-// The same of a Data Field whose lawful map has so many entries.
-fn page_of(field: &[u8], pages: usize, number: usize) -> Result<Page<'_>, Refusal>
-    requires size { length field.now ≡ 8208 }
-    requires map { map_size field.now ≡ Some pages }
-    ensures { viewed result ≡ page_among field.now (Some pages) number }
-{
+    let pages = map_size(field).ok_or(Refusal::Unlawful {
+        envelope: 0,
+        entity: 0,
+        block: 0,
+    })?;
     if number == 0 || number > pages {
         return Err(Refusal::NoSuchNumber(number));
     }
@@ -61,14 +58,12 @@ fn cut(field: &[u8], e: Entry, place: usize) -> Page<'_>
     ensures { view result ≡ page_of field.now e place }
 {
     let count = usize::from(e.count);
-    if e.kind == DATA {
-        Page::Data {
+    match e.kind {
+        PageType::Data => Page::Data {
             bytes: &field[place..place + count],
             place,
-        }
-    } else if e.kind == TAPE_MARK {
-        Page::TapeMark { place, count }
-    } else {
-        Page::Filler { place, count }
+        },
+        PageType::TapeMark => Page::TapeMark { place, count },
+        PageType::Filler | PageType::Other(_) => Page::Filler { place, count },
     }
 }

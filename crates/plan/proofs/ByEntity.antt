@@ -1,6 +1,5 @@
 -- The blocks of a plan, followed entity after entity. Assumes nothing.
-use Rattle.std.proofs.Common.{◌≡◌, ℕ, zero, suc, ◌+◌, ◌≤◌, Bool, true, false, List, [], ◌∷◌, ◌++◌, length, take, drop, sym, refl, ap, ◌∙◌, subst, append-nil, le_of_eq, le_refl, not-suc-le-zero, arith, length-append}
-use mathlib.Core.Option.{none}
+use Rattle.std.proofs.Common.{◌≡◌, ℕ, zero, suc, ◌+◌, ◌≤◌, Bool, true, false, List, [], ◌∷◌, ◌++◌, length, take, drop, sym, refl, ap, ◌∙◌, subst, append-nil, le_of_eq, le_refl, not-suc-le-zero, arith, length-append, None}
 use Rattle.std.proofs.lemmas.List.{take_at, drop_at, length-drop, take-append-drop}
 use Rattle.bits.specs.Fields.{sum}
 use Rattle.plan.specs.declared.page.PlannedPage.{PlannedPage}
@@ -53,7 +52,7 @@ one_entity xs ys gs o b bs os l h e ih =
     let fy : List (List ℕ) = fields ys (drop (all_user_bytes xs) bs) in
     let both : follow_blocks true o b (fx ++ fy) ≡ all_found os =
     ap (follow_blocks true o b) (sym (fields-append xs ys bs)) ∙ e in
-    let unbroken : (follow_blocks false o b fx).broken ≡ none =
+    let unbroken : (follow_blocks false o b fx).broken ≡ None =
     follow_first true fx fy o b (ap (λ (f : EntityFollowed). f.broken) both) in
     let first : EntityFollowed = follow_blocks false o b fx in
     let here : List Object = first.found in

@@ -1,7 +1,9 @@
 -- As many objects end in laid blocks as their pages say. Assumes nothing.
-use Rattle.std.proofs.Common.{◌≡◌, ℕ, zero, suc, ◌+◌, ◌-◌, ◌≤◌, Bool, true, false, cond, not, ◌&&◌, ◌||◌, T, eqb, ltb, List, [], ◌∷◌, ◌++◌, length, take, drop, sym, refl, ap, ◌∙◌, subst, ap₂, le_of_suc-le-suc, not-suc-le-zero, arith, length-append}
-use mathlib.Core.Option.{Option, some, none}
+use Rattle.std.proofs.Common.{◌≡◌, ℕ, suc, ◌+◌, ◌-◌, ◌≤◌, Bool, true, false, cond, not, ◌&&◌, ◌||◌, T, eqb, ltb, List, [], ◌∷◌, ◌++◌, length, take, drop, sym, refl, ap, ◌∙◌, subst, ap₂, arith, length-append, Option, Some, None}
 use Rattle.std.proofs.lemmas.List.{length-drop}
+use Rattle.pages.specs.PageType.{is_known}
+use Rattle.pages.specs.declared.page_type.PageType.{PageType}
+use Rattle.pages.specs.declared.page_type.PageType.TheVariants.{Filler, Data, TapeMark, Other}
 use Rattle.pages.specs.declared.entry.Entry.{Entry}
 use Rattle.plan.specs.declared.page.PlannedPage.{PlannedPage}
 use Rattle.plan.specs.Objects.{Object, rec}
@@ -10,8 +12,7 @@ use Rattle.plan.specs.DataFields.{ends_in}
 use Rattle.plan.specs.Following.{Open, closed, going, Followed, broke, PageStep, breaks, goes_on, ends, page_step}
 use Rattle.plan.specs.Following.{follow_pages, follow_block, follow_blocks}
 use Rattle.plan.specs.Laws.{Laid, AllLaid}
-use Rattle.plan.proofs.Truth.{not_some}
-use Rattle.plan.proofs.LawfulPages.{Law, law}
+use Rattle.plan.proofs.LawfulPages.{Law, law, into_next}
 use Rattle.plan.proofs.MapBytes.{map_reads_back}
 use Rattle.plan.proofs.Splitting.{then-blocks}
 use Rattle.plan.proofs.OverPages.{after-step}
@@ -22,8 +23,8 @@ Counts breaks n = Unit {0}
 Counts (goes_on o) n = n ≡ 0
 Counts (ends x) n = n ≡ 1
 
-abbrev ends_here : ℕ → Bool → ℕ
-ends_here k more = cond (eqb k 1 || more) 0 1
+abbrev ends_here : PageType → Bool → ℕ
+ends_here k more = elim k [ Filler ↦ 0 | _ ↦ cond more 0 1 ]
 
 data_counts : (p more q r : Bool) (o : Open) (x : Object)
     → Counts (cond p (cond more (cond q (goes_on o) breaks) (cond r (ends x) breaks)) breaks) (cond more 0 1)
@@ -41,39 +42,32 @@ breaks_if : (p : Bool) (s : PageStep) (n : ℕ) → Counts s n → Counts (cond 
 breaks_if true s n c = tt
 breaks_if false s n c = c
 
-mark_counts : (more last : Bool) → T (not more || (last && false)) → ends_here 3 more ≡ 1
+mark_counts : (more last : Bool) → T (not more || (last && false)) → ends_here TapeMark more ≡ 1
 mark_counts false last t = refl
 mark_counts true true t = absurd t
 mark_counts true false t = absurd t
 
-step_counts : (o : Open) (k m : ℕ) (more last : Bool) (c t n : ℕ) (got : List ℕ)
-    → 1 ≤ k → k ≤ 3 → T (not more || (last && eqb k 2))
-    → Counts (page_step o (entry_for (record {
-      kind = k;
-      piece = m;
-      more = more;
-      count = c;
-      total = t;
-      object =
-          n;
-    }) last) got) (ends_here k more)
-step_counts o zero m more last c t n got h₁ h₂ h₃ = absurd (not-suc-le-zero h₁)
-step_counts closed (suc zero) m more last c t n got h₁ h₂ h₃ = refl
-step_counts (going u g) (suc zero) m more last c t n got h₁ h₂ h₃ = tt
-step_counts closed (suc (suc zero)) m more last c t n got h₁ h₂ h₃ =
+abbrev page_of : PageType → ℕ → Bool → ℕ → ℕ → ℕ → PlannedPage
+page_of k m more c t n = record { kind = k; piece = m; more = more; count = c; total = t; object = n }
+
+step_counts : (o : Open) (k : PageType) (m : ℕ) (more last : Bool) (c t n : ℕ) (got : List ℕ)
+    → T (is_known k) → T (into_next (entry_for (page_of k m more c t n) last))
+    → Counts (page_step o (entry_for (page_of k m more c t n) last) got) (ends_here k more)
+step_counts closed Filler m more last c t n got h₁ h₃ = refl
+step_counts (going u g) Filler m more last c t n got h₁ h₃ = tt
+step_counts closed Data m more last c t n got h₁ h₃ =
     breaks_if (ltb 1 m) _ _ (data_counts (eqb t t) more (ltb (length got) t) (eqb (length got) t) (going t got)
     (rec got))
-step_counts (going u g) (suc (suc zero)) m more last c t n got h₁ h₂ h₃ =
+step_counts (going u g) Data m more last c t n got h₁ h₃ =
     unless-breaks (ltb 1 m) _ _ (data_counts (eqb t u) more (ltb (length (g ++ got)) u) (eqb (length (g ++ got)) u)
     (going u (g ++ got)) (rec (g ++ got)))
-step_counts closed (suc (suc (suc zero))) m more last c t n got h₁ h₂ h₃ = mark_counts more last h₃
-step_counts (going u g) (suc (suc (suc zero))) m more last c t n got h₁ h₂ h₃ = tt
-step_counts o (suc (suc (suc (suc k)))) m more last c t n got h₁ h₂ h₃ =
-    absurd (not-suc-le-zero (le_of_suc-le-suc (le_of_suc-le-suc (le_of_suc-le-suc h₂))))
+step_counts closed TapeMark m more last c t n got h₁ h₃ = mark_counts more last h₃
+step_counts (going u g) TapeMark m more last c t n got h₁ h₃ = tt
+step_counts o (Other k) m more last c t n got h₁ h₃ = absurd h₁
 
 abbrev HasOpen : Option Open → Type 0
-HasOpen none = ⊥
-HasOpen (some o) = Unit {0}
+HasOpen None = ⊥
+HasOpen (Some o) = Unit {0}
 
 count_pages : (pgs : List PlannedPage) (head : Bool) (free : ℕ) (o : Open) (bs : List ℕ) → Laid head free pgs
     → HasOpen (follow_pages o (page_entries pgs) bs).after
@@ -84,7 +78,7 @@ count_pages (pg ∷ pgs) head free o bs l h =
     let p : Law (entry_for pg (is_empty pgs)) = law head (entry_for pg (is_empty pgs)) l.0 in
     go (page_step o (entry_for pg (is_empty pgs)) (take pg.count bs))
     (step_counts o pg.kind pg.piece pg.more (is_empty pgs) pg.count pg.total pg.object
-    (take pg.count bs) p.kind_from p.kind_to p.goes_on_last)
+    (take pg.count bs) p.known p.goes_on_last)
     (λ o₁. count_pages pgs false (free - (pg.count + 8)) o₁ (drop pg.count bs) l.2) h
   where
     go : (s : PageStep) → Counts s (ends_here pg.kind pg.more)
@@ -101,14 +95,14 @@ block_is : (o : Open) (pgs : List PlannedPage) (bs : List ℕ) → Laid true 820
     → follow_block o (field_of pgs bs) ≡ follow_pages o (page_entries pgs) (field_of pgs bs)
 block_is o pgs bs l h =
     ap (λ (m : Option (List Entry)). elim m as (λ _. Followed) [
-      | none ↦ broke
-      | some es ↦ follow_pages o es
+      | None ↦ broke
+      | Some es ↦ follow_pages o es
           (field_of pgs bs)
     ]) (map_reads_back pgs bs l h)
 
 pub count-blocks : (last : Bool) (blocks : List (List PlannedPage)) (o : Open) (b : ℕ) (bs : List ℕ) → AllLaid blocks
     → all_user_bytes blocks ≤ length bs
-    → (follow_blocks last o b (fields blocks bs)).broken ≡ none
+    → (follow_blocks last o b (fields blocks bs)).broken ≡ None
     → length (follow_blocks last o b (fields blocks bs)).found ≡ ends_in blocks
 unfolding follow_blocks then-blocks
 count-blocks last [] o b bs l h e = refl
@@ -124,9 +118,9 @@ count-blocks last (pgs ∷ more) o b bs l h e =
     fs = fields more (drop (user_bytes pgs) bs)
 
     go : (es : List Object) (q : Option Open) → (HasOpen q → length es ≡ ends_on pgs)
-        → ((o₁ : Open) → (follow_blocks last o₁ (suc b) fs).broken ≡ none
+        → ((o₁ : Open) → (follow_blocks last o₁ (suc b) fs).broken ≡ None
         → length (follow_blocks last o₁ (suc b) fs).found ≡ ends_in more)
-        → (then-blocks last b (record { ended = es; after = q }) fs).broken ≡ none
+        → (then-blocks last b (record { ended = es; after = q }) fs).broken ≡ None
         → length (then-blocks last b (record { ended = es; after = q }) fs).found ≡ ends_on pgs + ends_in more
-    go es none c ih k = not_some b k
-    go es (some o₁) c ih k = length-append es (follow_blocks last o₁ (suc b) fs).found ∙ ap₂ ◌+◌ (c tt) (ih o₁ k)
+    go es None c ih k = cc
+    go es (Some o₁) c ih k = length-append es (follow_blocks last o₁ (suc b) fs).found ∙ ap₂ ◌+◌ (c tt) (ih o₁ k)

@@ -1,15 +1,15 @@
 -- The map of a laid block, read from the bytes of its Data Field, is the list of its pages' entries. Assumes nothing.
-use Rattle.std.proofs.Common.{◌≡◌, ℕ, zero, suc, ◌+◌, ◌-◌, ◌*◌, ◌≤◌, Bool, true, false, cond, ◌&&◌, T, eqb, leb, List, [], ◌∷◌, ◌++◌, map, length, take, drop, Some, None, Option as Answered, sym, refl, ap, ◌∙◌, ap₂, append_assoc, append-nil, suc-le-suc, zero-le, le_refl, le_of_suc-le-suc, not-suc-le-zero, zero-add, arith, le→leb, length-append, ne_eqb}
-use mathlib.Core.Option.{Option, some, none}
+use Rattle.std.proofs.Common.{◌≡◌, ℕ, zero, suc, ◌+◌, ◌-◌, ◌*◌, ◌≤◌, Bool, true, false, cond, ◌&&◌, T, eqb, leb, List, [], ◌∷◌, ◌++◌, map, length, take, drop, Some, None, Option, sym, refl, ap, ◌∙◌, ap₂, append_assoc, append-nil, suc-le-suc, zero-le, le_refl, le_of_suc-le-suc, not-suc-le-zero, zero-add, arith, le→leb, length-append, ne_eqb}
 use Rattle.std.proofs.lemmas.List.{take_at, drop_at}
 use Rattle.std.specs.List.{range_with_len}
 use Rattle.bits.specs.Fields.{Within}
 use Rattle.block.specs.Block.{zeros}
+use Rattle.pages.specs.PageType.{number_of, type_of}
 use Rattle.pages.specs.Entry.{entry_widths, entry_fields, entry_bytes, entry_of}
 use Rattle.pages.specs.Map.{entry_at, lawful_entry, map_step, map_from, map_size}
 use Rattle.pages.specs.declared.entry.Entry.{Entry}
 use Rattle.pages.specs.declared.map.Step.{Step}
-use Rattle.pages.specs.declared.map.Step.TheVariants.{Unlawful, Last, Next}
+use Rattle.pages.specs.declared.map.Step.TheVariants.{Last, Next}
 use Rattle.pages.proofs.EntryLaws.{entry_decodes}
 use Rattle.pages.proofs.MapSteps.{follow, map-follows}
 use Rattle.plan.specs.declared.page.PlannedPage.{PlannedPage}
@@ -17,33 +17,34 @@ use Rattle.plan.specs.DataFields.{is_empty, entry_for, entries, page_entries, us
 use Rattle.plan.specs.DataFields.{page_bytes, page_sizes, field_of}
 use Rattle.plan.specs.Following.{entries_of}
 use Rattle.plan.specs.Laws.{Laid, MapReadsBack}
-use Rattle.plan.proofs.LawfulPages.{entry_within}
+use Rattle.plan.proofs.LawfulPages.{law, entry_within, known-back}
 use Rattle.plan.proofs.Truth.{is_true, T_and}
 use Rattle.plan.proofs.FieldLengths.{length-entry, laid_sizes, length-field}
 
 -- ---- what an entry says of the map where it is lawful and has room: the last, or one before others
 
 last_step : (e : Entry) (first : Bool) (free : ℕ) → T (lawful_entry first e) → e.last ≡ true → e.count + 8 ≤ free
-    → free - (e.count + 8) ≤ 16 → map_step free first e ≡ Last
+    → free - (e.count + 8) ≤ 16 → map_step free first e ≡ Some Last
 last_step e first free t l h k =
-    ap (λ (b : Bool). cond b (cond e.last (cond (leb (free - (e.count + 8)) 16) Last Unlawful)
-    (Next (free - (e.count + 8)))) Unlawful)
+    ap (λ (b : Bool). cond b (cond e.last (cond (leb (free - (e.count + 8)) 16) (Some Last) None)
+    (Some (Next (free - (e.count + 8))))) None)
     (is_true (lawful_entry first e && leb (e.count + 8) free) (T_and _ _ t (le→leb (e.count + 8) free h)))
-    ∙ ap₂ (λ (b c : Bool). cond b (cond c Last Unlawful) (Next (free - (e.count + 8)))) l (is_true _ (le→leb _ _ k))
+    ∙ ap₂ (λ (b c : Bool). cond b (cond c (Some Last) None) (Some (Next (free - (e.count + 8))))) l (is_true _ (le→leb _ _ k))
 
 more-step : (e : Entry) (first : Bool) (free : ℕ) → T (lawful_entry first e) → e.last ≡ false → e.count + 8 ≤ free
-    → map_step free first e ≡ Next (free - (e.count + 8))
+    → map_step free first e ≡ Some (Next (free - (e.count + 8)))
 more-step e first free t l h =
-    ap (λ (b : Bool). cond b (cond e.last (cond (leb (free - (e.count + 8)) 16) Last Unlawful)
-    (Next (free - (e.count + 8)))) Unlawful)
+    ap (λ (b : Bool). cond b (cond e.last (cond (leb (free - (e.count + 8)) 16) (Some Last) None)
+    (Some (Next (free - (e.count + 8))))) None)
     (is_true (lawful_entry first e && leb (e.count + 8) free) (T_and _ _ t (le→leb (e.count + 8) free h)))
-    ∙ ap (λ (b : Bool). cond b (cond (leb (free - (e.count + 8)) 16) Last Unlawful) (Next (free - (e.count + 8)))) l
+    ∙ ap (λ (b : Bool). cond b (cond (leb (free - (e.count + 8)) 16) (Some Last) None) (Some (Next (free - (e.count + 8))))) l
 
 -- the entry of the first page stands behind those of the later ones
 entry_here : (pg : PlannedPage) (pgs : List PlannedPage) (i : ℕ) (front tail field : List ℕ)
     → field ≡ front ++ (entries (pg ∷ pgs) ++ tail) → length field ≡ 8208 → length tail ≡ 8 * i
-    → Within entry_widths (entry_fields (entry_for pg (is_empty pgs))) → entry_at field i ≡ entry_for pg (is_empty pgs)
-entry_here pg pgs i front tail field e hl ht w =
+    → Within entry_widths (entry_fields (entry_for pg (is_empty pgs))) → type_of (number_of pg.kind) ≡ pg.kind
+    → entry_at field i ≡ entry_for pg (is_empty pgs)
+entry_here pg pgs i front tail field e hl ht w k =
     let eb : List ℕ = entry_bytes (entry_for pg (is_empty pgs)) in
     let e' : field ≡ (front ++ entries pgs) ++ (eb ++ tail) =
     e ∙ ap (λ (x : List ℕ). front ++ x) (append_assoc (entries pgs) eb tail)
@@ -59,7 +60,7 @@ entry_here pg pgs i front tail field e hl ht w =
     ap (λ (x : List ℕ). entry_of (take 8 (drop (8208 - 8 * (i + 1)) x))) e'
     ∙ ap (λ (x : List ℕ). entry_of (take 8 x)) (drop_at (front ++ entries pgs) (eb ++ tail) (8208 - 8 * (i + 1)) n)
     ∙ ap entry_of (take_at eb tail 8 (length-entry (entry_for pg (is_empty pgs))))
-    ∙ entry_decodes (entry_for pg (is_empty pgs)) w
+    ∙ entry_decodes (entry_for pg (is_empty pgs)) w k
 
 -- ---- the map from entry i on, where pages stand with their entries before those of `tail`
 
@@ -76,6 +77,7 @@ entry_stands : (pg : PlannedPage) (pgs : List PlannedPage) (head : Bool) (free i
 entry_stands pg pgs head free i front tail field s =
     entry_here pg pgs i front tail field s.whole s.long s.behind
     (entry_within head (is_empty pgs) pg s.laid.0 (omega (arith, s.small, s.laid.1)))
+    (known-back pg.kind (law head (entry_for pg (is_empty pgs)) s.laid.0).known)
 
 pub not_first : (i : ℕ) → eqb (i + 1) 0 ≡ false
 not_first i = ne_eqb (i + 1) 0 (λ e. let z : i + 1 ≡ 0 = e in omega arith)
@@ -101,13 +103,13 @@ found-size [] head left free i front tail field hn h1 s = absurd (not-suc-le-zer
 found-size (pg ∷ pgs) head zero free i front tail field hn h1 s = absurd (not-suc-le-zero hn)
 found-size (pg ∷ []) head (suc left) free i front tail field hn h1 s =
     map-follows left free i field
-    ∙ ap (λ (st : Step). follow st i (λ f. map_from left f (i + 1) field))
+    ∙ ap (λ (st : Option Step). follow st i (λ f. map_from left f (i + 1) field))
     (ap₂ (map_step free) s.first (entry_stands pg [] head free i front tail field s)
     ∙ last_step (entry_for pg true) head free s.laid.0 refl s.laid.1 s.laid.2)
 found-size (pg ∷ pg' ∷ pgs) head (suc left) free i front tail field hn h1 s =
     let n : i + 1 + length (pg' ∷ pgs) ≡ i + length (pg ∷ pg' ∷ pgs) = omega arith in
     map-follows left free i field
-    ∙ ap (λ (st : Step). follow st i (λ f. map_from left f (i + 1) field))
+    ∙ ap (λ (st : Option Step). follow st i (λ f. map_from left f (i + 1) field))
     (ap₂ (map_step free) s.first (entry_stands pg (pg' ∷ pgs) head free i front tail field s)
     ∙ more-step (entry_for pg false) head free s.laid.0 refl s.laid.1)
     ∙ found-size (pg' ∷ pgs) false left (free - (pg.count + 8)) (i + 1) front
@@ -154,11 +156,11 @@ map_size_lem pgs bs l h =
 pub map_reads_back : MapReadsBack
 unfolding entries_of
 map_reads_back pgs bs l h =
-    ap (λ (m : Answered ℕ). elim m as (λ _. Option (List Entry)) [
-      | None ↦ none
-      | Some n ↦ some
+    ap (λ (m : Option ℕ). elim m as (λ _. Option (List Entry)) [
+      | None ↦ None
+      | Some n ↦ Some
           (map (entry_at (field_of pgs bs)) (range_with_len 0 n))
     ])
     (map_size_lem pgs bs l h)
-    ∙ ap some (found-entries pgs true 8208 0 (page_bytes pgs bs ++ zeros (8208 - page_sizes pgs)) [] (field_of pgs bs)
+    ∙ ap Some (found-entries pgs true 8208 0 (page_bytes pgs bs ++ zeros (8208 - page_sizes pgs)) [] (field_of pgs bs)
     (field_stands pgs bs l h))

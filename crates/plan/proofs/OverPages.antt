@@ -1,6 +1,5 @@
 -- Following over pages and the joined bytes, in place of maps and Data Fields. Assumes nothing.
-use Rattle.std.proofs.Common.{◌≡◌, ℕ, suc, ◌-◌, ◌≤◌, true, List, [], ◌∷◌, ◌++◌, length, take, drop, sym, refl, ap, ◌∙◌, ap₂, append_assoc, arith}
-use mathlib.Core.Option.{Option, some, none}
+use Rattle.std.proofs.Common.{◌≡◌, ℕ, suc, ◌-◌, ◌≤◌, true, List, [], ◌∷◌, ◌++◌, length, take, drop, sym, refl, ap, ◌∙◌, ap₂, append_assoc, arith, Option, Some, None}
 use Rattle.std.proofs.lemmas.List.{take_at, drop_at, drop-drop}
 use Rattle.block.specs.Block.{zeros}
 use Rattle.pages.specs.declared.entry.Entry.{Entry}
@@ -35,7 +34,7 @@ by_map : (o : Open) (b : ℕ) (pgs : List PlannedPage) (more : List (List Planne
 unfolding over then-blocks follow_blocks
 by_map o b pgs more bs l h =
     ap (λ (m : Option (List Entry)).
-    then-blocks true b (elim m [ none ↦ broke | some es ↦ follow_pages o es (field_of pgs bs) ])
+    then-blocks true b (elim m [ None ↦ broke | Some es ↦ follow_pages o es (field_of pgs bs) ])
     (fields more (drop (user_bytes pgs) bs)))
     (map_reads_back pgs bs l h)
 
@@ -76,8 +75,8 @@ then_object : (b : ℕ) (x : Object) (es : List Object) (q : Option Open) (fs : 
     → then-blocks true b (after_object x (record { ended = es; after = q })) fs
     ≡ before_found (x ∷ []) (then-blocks true b (record { ended = es; after = q }) fs)
 unfolding then-blocks
-then_object b x es none fs = refl
-then_object b x es (some o) fs = refl
+then_object b x es None fs = refl
+then_object b x es (Some o) fs = refl
 
 over-ends : (pg : PlannedPage) (pgs : List PlannedPage) (more : List (List PlannedPage)) (o : Open) (b : ℕ)
     (bs junk : List ℕ) (x : Object) → user_count pg ≤ length bs

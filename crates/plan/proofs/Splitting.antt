@@ -1,17 +1,15 @@
 -- Following blocks is following the first of them and then the others, with what the first leave open. Assumes nothing.
-use Rattle.std.proofs.Common.{◌≡◌, ℕ, suc, ◌+◌, ◌-◌, Bool, true, false, cond, ◌&&◌, List, [], ◌∷◌, ◌++◌, length, drop, sym, refl, ap, ◌∙◌, append_assoc, add-zero, arith}
-use mathlib.Core.Option.{Option, some, none}
+use Rattle.std.proofs.Common.{◌≡◌, ℕ, suc, ◌+◌, ◌-◌, Bool, true, false, cond, ◌&&◌, List, [], ◌∷◌, ◌++◌, length, drop, sym, refl, ap, ◌∙◌, append_assoc, add-zero, arith, Option, Some, None}
 use Rattle.std.proofs.lemmas.List.{drop-drop}
 use Rattle.plan.specs.declared.page.PlannedPage.{PlannedPage}
 use Rattle.plan.specs.Objects.{Object}
 use Rattle.plan.specs.DataFields.{user_bytes, all_user_bytes, field_of, fields}
 use Rattle.plan.specs.Following.{Open, closed, going, is_open, Followed, follow_block, EntityFollowed, before_found}
 use Rattle.plan.specs.Following.{follow_blocks}
-use Rattle.plan.proofs.Truth.{not_some}
 
 -- nothing broke: the objects found, and what is left open
 abbrev pub whole-found : List Object → Open → EntityFollowed
-whole-found os o = record { found = os; broken = none; left_open = o }
+whole-found os o = record { found = os; broken = None; left_open = o }
 
 abbrev pub all_found : List Object → EntityFollowed
 all_found os = whole-found os closed
@@ -20,8 +18,8 @@ all_found os = whole-found os closed
 unfoldable pub then-blocks : Bool → ℕ → Followed → List (List ℕ) → EntityFollowed
 then-blocks last b g fs =
     elim g.after [
-      | none ↦ record { found = g.ended; broken = some b; left_open = closed }
-      | some o' ↦ before_found g.ended (follow_blocks last o' (suc b) fs)
+      | None ↦ record { found = g.ended; broken = Some b; left_open = closed }
+      | Some o' ↦ before_found g.ended (follow_blocks last o' (suc b) fs)
     ]
 
 before-twice : (es fs : List Object) (f : EntityFollowed)
@@ -49,8 +47,8 @@ follow_on last (x ∷ xs) ys o o' b os h =
         → then-blocks false b (record { ended = es; after = q }) xs ≡ whole-found os o'
         → then-blocks last b (record { ended = es; after = q }) (xs ++ ys)
         ≡ before_found os (follow_blocks last o' (b + length (x ∷ xs)) ys)
-    go es none ih k = not_some b (ap (λ (f : EntityFollowed). f.broken) k)
-    go es (some o₁) ih k =
+    go es None ih k = let e : Some b ≡ None = ap (λ (f : EntityFollowed). f.broken) k in cc
+    go es (Some o₁) ih k =
         let f : EntityFollowed = follow_blocks false o₁ (suc b) xs in
         let n : suc b + length xs ≡ b + suc (length xs) = omega arith in
         ap (before_found es) (ih o₁ f.found (λ i. record {
@@ -63,7 +61,7 @@ follow_on last (x ∷ xs) ys o o' b os h =
         ∙ (λ i. before_found (k i).found (follow_blocks last o' (n i) ys))
 
 -- the same, with what the blocks `xs` are found to be
-pub follow-parts : (last : Bool) (xs ys : List (List ℕ)) (o : Open) (b : ℕ) → (follow_blocks false o b xs).broken ≡ none
+pub follow-parts : (last : Bool) (xs ys : List (List ℕ)) (o : Open) (b : ℕ) → (follow_blocks false o b xs).broken ≡ None
     → follow_blocks last o b (xs ++ ys) ≡ before_found (follow_blocks false o b xs).found
     (follow_blocks last (follow_blocks false o b xs).left_open (b + length xs) ys)
 follow-parts last xs ys o b h =
@@ -77,59 +75,59 @@ follow-parts last xs ys o b h =
 
 -- where nothing breaks in all, nothing breaks in the first blocks
 pub follow_first : (last : Bool) (xs ys : List (List ℕ)) (o : Open) (b : ℕ)
-    → (follow_blocks last o b (xs ++ ys)).broken ≡ none → (follow_blocks false o b xs).broken ≡ none
+    → (follow_blocks last o b (xs ++ ys)).broken ≡ None → (follow_blocks false o b xs).broken ≡ None
 unfolding follow_blocks then-blocks
 follow_first last [] ys o b h = refl
 follow_first last (x ∷ xs) ys o b h = go (follow_block o x).ended (follow_block o x).after
     (λ o₁. follow_first last xs ys o₁ (suc b)) h
   where
     go : (es : List Object) (q : Option Open)
-        → ((o₁ : Open) → (follow_blocks last o₁ (suc b) (xs ++ ys)).broken ≡ none
-        → (follow_blocks false o₁ (suc b) xs).broken ≡ none)
-        → (then-blocks last b (record { ended = es; after = q }) (xs ++ ys)).broken ≡ none
-        → (then-blocks false b (record { ended = es; after = q }) xs).broken ≡ none
-    go es none ih k = not_some b k
-    go es (some o₁) ih k = ih o₁ k
+        → ((o₁ : Open) → (follow_blocks last o₁ (suc b) (xs ++ ys)).broken ≡ None
+        → (follow_blocks false o₁ (suc b) xs).broken ≡ None)
+        → (then-blocks last b (record { ended = es; after = q }) (xs ++ ys)).broken ≡ None
+        → (then-blocks false b (record { ended = es; after = q }) xs).broken ≡ None
+    go es None ih k = cc
+    go es (Some o₁) ih k = ih o₁ k
 
 -- where nothing breaks, the blocks' numbers say nothing
-pub any-number : (last : Bool) (xs : List (List ℕ)) (o : Open) (b b' : ℕ) → (follow_blocks last o b xs).broken ≡ none
+pub any-number : (last : Bool) (xs : List (List ℕ)) (o : Open) (b b' : ℕ) → (follow_blocks last o b xs).broken ≡ None
     → follow_blocks last o b' xs ≡ follow_blocks last o b xs
 unfolding follow_blocks then-blocks
 any-number last [] o b b' h = go (last && is_open o) h
   where
-    go : (p : Bool) → cond p (some (b - 1)) none ≡ none
-        → ◌≡◌ {A = EntityFollowed} (record { found = []; broken = cond p (some (b' - 1)) none; left_open = o })
-        (record { found = []; broken = cond p (some (b - 1)) none; left_open = o })
-    go true k = not_some (b - 1) k
+    go : (p : Bool) → cond p (Some (b - 1)) None ≡ None
+        → ◌≡◌ {A = EntityFollowed} (record { found = []; broken = cond p (Some (b' - 1)) None; left_open = o })
+        (record { found = []; broken = cond p (Some (b - 1)) None; left_open = o })
+    go true k = cc
     go false k = refl
 any-number last (x ∷ xs) o b b' h = go (follow_block o x).ended (follow_block o x).after
     (λ o₁. any-number last xs o₁ (suc b) (suc b')) h
   where
     go : (es : List Object) (q : Option Open)
-        → ((o₁ : Open) → (follow_blocks last o₁ (suc b) xs).broken ≡ none
+        → ((o₁ : Open) → (follow_blocks last o₁ (suc b) xs).broken ≡ None
         → follow_blocks last o₁ (suc b') xs ≡ follow_blocks last o₁ (suc b) xs)
-        → (then-blocks last b (record { ended = es; after = q }) xs).broken ≡ none
+        → (then-blocks last b (record { ended = es; after = q }) xs).broken ≡ None
         → then-blocks last b' (record { ended = es; after = q }) xs
         ≡ then-blocks last b (record { ended = es; after = q }) xs
-    go es none ih k = not_some b k
-    go es (some o₁) ih k = ap (before_found es) (ih o₁ k)
+    go es None ih k = cc
+    go es (Some o₁) ih k = ap (before_found es) (ih o₁ k)
 
 -- what is lawful in the last entity is lawful in any
-pub not_last : (xs : List (List ℕ)) (o : Open) (b : ℕ) → (follow_blocks true o b xs).broken ≡ none
+pub not_last : (xs : List (List ℕ)) (o : Open) (b : ℕ) → (follow_blocks true o b xs).broken ≡ None
     → follow_blocks false o b xs ≡ follow_blocks true o b xs
 unfolding follow_blocks then-blocks
 not_last [] closed b h = refl
-not_last [] (going t got) b h = not_some (b - 1) h
+not_last [] (going t got) b h = cc
 not_last (x ∷ xs) o b h = go (follow_block o x).ended (follow_block o x).after (λ o₁. not_last xs o₁ (suc b)) h
   where
     go : (es : List Object) (q : Option Open)
-        → ((o₁ : Open) → (follow_blocks true o₁ (suc b) xs).broken ≡ none
+        → ((o₁ : Open) → (follow_blocks true o₁ (suc b) xs).broken ≡ None
         → follow_blocks false o₁ (suc b) xs ≡ follow_blocks true o₁ (suc b) xs)
-        → (then-blocks true b (record { ended = es; after = q }) xs).broken ≡ none
+        → (then-blocks true b (record { ended = es; after = q }) xs).broken ≡ None
         → then-blocks false b (record { ended = es; after = q }) xs
         ≡ then-blocks true b (record { ended = es; after = q }) xs
-    go es none ih k = not_some b k
-    go es (some o₁) ih k = ap (before_found es) (ih o₁ k)
+    go es None ih k = cc
+    go es (Some o₁) ih k = ap (before_found es) (ih o₁ k)
 
 pub fields-append : (xs ys : List (List PlannedPage)) (bs : List ℕ)
     → fields (xs ++ ys) bs ≡ fields xs bs ++ fields ys (drop (all_user_bytes xs) bs)

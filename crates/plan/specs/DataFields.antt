@@ -14,6 +14,7 @@
 use Rattle.std.specs.Prelude.{ℕ, ◌+◌, ◌-◌, Bool, true, false, cond, ◌&&◌, ◌||◌, List, [], ◌∷◌, ◌++◌, take, drop, ◌==◌, nat_lt}
 use Rattle.block.specs.Block.{zeros}
 use Rattle.pages.specs.Entry.{entry_bytes}
+use Rattle.pages.specs.declared.page_type.PageType.TheVariants.{Filler, Data, TapeMark}
 use Rattle.pages.specs.declared.entry.Entry.{Entry}
 use Rattle.plan.specs.declared.page.PlannedPage.{PlannedPage}
 
@@ -42,7 +43,7 @@ page_entries [] = []
 page_entries (pg ∷ pgs) = entry_for pg (is_empty pgs) ∷ page_entries pgs
 
 abbrev pub holds_record : PlannedPage → Bool
-holds_record pg = pg.kind == 2
+holds_record pg = elim pg.kind [ Data ↦ true | _ ↦ false ]
 
 abbrev pub user_count : PlannedPage → ℕ
 user_count pg = cond (holds_record pg) pg.count 0
@@ -80,11 +81,11 @@ starts_record (pg ∷ pgs) = (holds_record pg && pg.piece == 1) || starts_record
 
 abbrev pub has_mark : List PlannedPage → Bool
 has_mark [] = false
-has_mark (pg ∷ pgs) = pg.kind == 3 || has_mark pgs
+has_mark (pg ∷ pgs) = elim pg.kind [ TapeMark ↦ true | _ ↦ has_mark pgs ]
 
 abbrev pub ends_on : List PlannedPage → ℕ
 ends_on [] = 0
-ends_on (pg ∷ pgs) = cond (pg.kind == 1 || pg.more) 0 1 + ends_on pgs
+ends_on (pg ∷ pgs) = (elim pg.kind [ Filler ↦ 0 | _ ↦ cond pg.more 0 1 ]) + ends_on pgs
 
 abbrev pub ends_in : List (List PlannedPage) → ℕ
 ends_in [] = 0

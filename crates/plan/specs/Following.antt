@@ -7,15 +7,15 @@
 --   follow_pages, follow_block the objects that end on some pages, in a block, and what is open behind them
 --   follow_blocks last o b fs the same over the Data Fields fs of blocks numbered from b; in an envelope's last entity
 --                            nothing may stay open
-use Rattle.std.specs.Prelude.{ℕ, suc, ◌-◌, Bool, true, false, cond, ◌&&◌, List, [], ◌∷◌, ◌++◌, map, length, take, drop, Some, None, ◌==◌, nat_lt}
-use Rattle.std.proofs.Math.Option.{Option, some, none}
+use Rattle.std.specs.Prelude.{ℕ, suc, ◌-◌, Bool, true, false, cond, ◌&&◌, List, [], ◌∷◌, ◌++◌, map, length, take, drop, Some, None, ◌==◌, nat_lt, Option}
 use Rattle.std.specs.List.{range_with_len}
 use Rattle.pages.specs.Map.{entry_at, is_data, map_size}
+use Rattle.pages.specs.declared.page_type.PageType.TheVariants.{Data, TapeMark}
 use Rattle.pages.specs.declared.entry.Entry.{Entry}
 use Rattle.plan.specs.Objects.{Object, mark, rec}
 
 unfoldable pub entries_of : List ℕ → Option (List Entry)
-entries_of field = elim (map_size field) [ None ↦ none | Some n ↦ some (map (entry_at field) (range_with_len 0 n)) ]
+entries_of field = elim (map_size field) [ None ↦ None | Some n ↦ Some (map (entry_at field) (range_with_len 0 n)) ]
 
 pub data Open : Type 0 where
   closed : Open
@@ -30,7 +30,7 @@ abbrev pub after_object : Object → Followed → Followed
 after_object o f = record { ended = o ∷ f.ended; after = f.after }
 
 abbrev pub broke : Followed
-broke = record { ended = []; after = none }
+broke = record { ended = []; after = None }
 
 -- a page breaks the rule, leaves a record or nothing open, or ends an object
 pub data PageStep : Type 0 where
@@ -49,12 +49,15 @@ joins e total got =
 -- Filler is passed over
 abbrev pub page_step : Open → Entry → List ℕ → PageStep
 page_step closed e bs =
-    cond (is_data e) (cond e.prev breaks (joins e e.total bs))
-    (cond (e.kind == 3) (ends mark) (goes_on closed))
+    elim e.kind [
+      | Data ↦ cond e.prev breaks (joins e e.total bs)
+      | TapeMark ↦ ends mark
+      | _ ↦ goes_on closed
+    ]
 page_step (going total got) e bs = cond (is_data e && e.prev) (joins e total (got ++ bs)) breaks
 
 unfoldable pub follow_pages : Open → List Entry → List ℕ → Followed
-follow_pages o [] bs = record { ended = []; after = some o }
+follow_pages o [] bs = record { ended = []; after = Some o }
 follow_pages o (e ∷ es) bs =
     elim (page_step o e (take e.count bs)) [
       | breaks ↦ broke
@@ -63,7 +66,7 @@ follow_pages o (e ∷ es) bs =
     ]
 
 abbrev pub follow_block : Open → List ℕ → Followed
-follow_block o field = elim (entries_of field) [ none ↦ broke | some es ↦ follow_pages o es field ]
+follow_block o field = elim (entries_of field) [ None ↦ broke | Some es ↦ follow_pages o es field ]
 
 -- the objects that ended, the number of the block that breaks the rule, if one does, and else what is open
 pub record EntityFollowed : Type 0 where
@@ -80,10 +83,10 @@ is_open (going t got) = true
 
 unfoldable pub follow_blocks : Bool → Open → ℕ → List (List ℕ) → EntityFollowed
 follow_blocks last o b [] =
-    record { found = []; broken = cond (last && is_open o) (some (b - 1)) none; left_open = o }
+    record { found = []; broken = cond (last && is_open o) (Some (b - 1)) None; left_open = o }
 follow_blocks last o b (f ∷ fs) =
     let g : Followed = follow_block o f in
     elim g.after [
-      | none ↦ record { found = g.ended; broken = some b; left_open = closed }
-      | some p ↦ before_found g.ended (follow_blocks last p (suc b) fs)
+      | None ↦ record { found = g.ended; broken = Some b; left_open = closed }
+      | Some p ↦ before_found g.ended (follow_blocks last p (suc b) fs)
     ]

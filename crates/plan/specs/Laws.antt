@@ -10,8 +10,7 @@
 --   FieldsProper             the Data Fields of a plan are 8,208 bytes each
 --   EndsAddUp                every object ends on one page
 --   PageNumbers              a record lies on at most 129 blocks, and pages name objects of the write
-use Rattle.std.specs.Prelude.{◌≡◌, ℕ, ◌+◌, ◌-◌, ◌≤◌, Bool, true, false, T, List, [], ◌∷◌, ◌++◌, length, take, drop}
-use Rattle.std.proofs.Math.Option.{some, none}
+use Rattle.std.specs.Prelude.{◌≡◌, ℕ, ◌+◌, ◌-◌, ◌≤◌, Bool, true, false, T, List, [], ◌∷◌, ◌++◌, length, take, drop, Some, None}
 use Rattle.bits.specs.Fields.{sum, AllBytes}
 use Rattle.pages.specs.Map.{lawful_entry}
 use Rattle.plan.specs.declared.page.PlannedPage.{PlannedPage}
@@ -35,7 +34,7 @@ AllLaid bs = AllOf (Laid true 8208) bs
 abbrev pub MapReadsBack : Type 0
 MapReadsBack =
     (pgs : List PlannedPage) (bs : List ℕ) → Laid true 8208 pgs → user_bytes pgs ≤ length bs
-    → entries_of (field_of pgs bs) ≡ some (page_entries pgs)
+    → entries_of (field_of pgs bs) ≡ Some (page_entries pgs)
 
 abbrev pub PlanLaid : Type 0
 PlanLaid = (ls : List ℕ) → AllUpTo 1048576 ls → AllLaid (plan ls) × (all_user_bytes (plan ls) ≡ sum ls)
@@ -44,7 +43,7 @@ abbrev pub FollowingUndoesPacking : Type 0
 FollowingUndoesPacking =
     (ls bs : List ℕ) → AllUpTo 1048576 ls → sum ls ≡ length bs
     → follow_blocks true closed 1 (fields (plan ls) bs)
-    ≡ record { found = objects_of ls bs; broken = none; left_open = closed }
+    ≡ record { found = objects_of ls bs; broken = None; left_open = closed }
 
 -- each entity is laid and gives the objects that end in it, and nothing stays open at the end
 abbrev pub FollowByEntity : Open → List (List (List PlannedPage)) → List ℕ → List Object → Type 0
@@ -56,7 +55,7 @@ FollowByEntity o (e ∷ es) bs os =
     × (ends_in e ≤ length os)
     × (follow_blocks (is_empty es) o 1 (fields e bs) ≡ record {
       found = take (ends_in e) os;
-      broken = none;
+      broken = None;
       left_open =
           p;
     })

@@ -7,17 +7,18 @@
 --   plan ls                      the same, with the block that a last entity of one data block gets added
 use Rattle.std.specs.Prelude.{ℕ, zero, suc, ◌+◌, ◌-◌, ◌*◌, ◌%◌, Bool, true, false, cond, List, [], ◌∷◌, ◌++◌, length, ◌==◌, nat_le, slice_index}
 use Rattle.bits.specs.Fields.{sum}
+use Rattle.pages.specs.declared.page_type.PageType.TheVariants.{Filler, Data, TapeMark}
 use Rattle.plan.specs.declared.page.PlannedPage.{PlannedPage}
 
 -- c bytes of a record of l bytes, object o of the write, as its piece m
 abbrev pub data_page : ℕ → Bool → ℕ → ℕ → ℕ → PlannedPage
-data_page m more c l o = record { kind = 2; piece = m; more = more; count = c; total = l; object = o }
+data_page m more c l o = record { kind = Data; piece = m; more = more; count = c; total = l; object = o }
 
 abbrev pub mark_page : ℕ → ℕ → PlannedPage
-mark_page c o = record { kind = 3; piece = 1; more = false; count = c; total = 0; object = o }
+mark_page c o = record { kind = TapeMark; piece = 1; more = false; count = c; total = 0; object = o }
 
 abbrev pub filler_page : ℕ → ℕ → PlannedPage
-filler_page c o = record { kind = 1; piece = 1; more = false; count = c; total = 0; object = o }
+filler_page c o = record { kind = Filler; piece = 1; more = false; count = c; total = 0; object = o }
 
 abbrev pub onto : PlannedPage → List (List PlannedPage) → List (List PlannedPage)
 onto pg [] = (pg ∷ []) ∷ []

@@ -3,22 +3,19 @@ ghost use Rattle.plan.specs.Laws.{MapReadsBack, PlanLaid, FollowingUndoesPacking
 ghost use Rattle.plan.specs.Laws.{EntitiesSized, FieldsProper, EndsAddUp, PageNumbers, EntitiesNumbered};
 
 // The pages of a plan, read back from the bytes of their blocks, give the objects of the write back.
-pub fn pages_follow() -> u8
+pub fn pages_follow()
     ensures maps { MapReadsBack }
     ensures objects { FollowingUndoesPacking }
     ensures entities { FollowingByEntity }
     ensures counts { FollowingCounts }
-{
-    0
-}
+{}
 
 // The blocks of every plan are laid by the rules, and its entities, Data Fields and numbers keep their bounds.
-pub fn plans_stand() -> u8
+pub fn plans_stand()
     ensures laid { PlanLaid }
     ensures sized { EntitiesSized }
     ensures proper { FieldsProper }
     ensures ends { EndsAddUp }
-    ensures numbers { (PageNumbers) × (EntitiesNumbered) }
-{
-    0
-}
+    ensures pages { PageNumbers }
+    ensures entities { EntitiesNumbered }
+{}

@@ -1,9 +1,10 @@
 // A page as it is planned, before it has a place in a block.
+use pages::PageType;
 
-#[derive(Clone, Copy, Drop)]
+#[derive(Clone, Copy, PartialEq, Eq, Debug)]
 pub struct PlannedPage {
-    // Page Type: 1 Filler, 2 Data, 3 tape mark.
-    pub kind: u8,
+    // Filler, Data or a tape mark.
+    pub kind: PageType,
     // Which piece of its record a Data page is, from 1; 1 for the others.
     pub piece: u32,
     // The record goes on in the next data block.

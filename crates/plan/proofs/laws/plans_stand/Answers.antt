@@ -11,5 +11,6 @@ returns c = record {
   sized = entities_sized;
   proper = fields_proper;
   ends = ends_add_up;
-  numbers = (page_numbers, entities_numbered);
+  pages = page_numbers;
+  entities = entities_numbered;
 }

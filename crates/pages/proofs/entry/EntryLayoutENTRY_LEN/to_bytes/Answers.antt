@@ -1,7 +1,7 @@
 -- The groups of bytes are those of the entry. Assumes nothing.
 use Rattle.std.proofs.Common.{sym}
 use Rattle.pages.proofs.EntryLaws.{entry_bytes_are}
-use Rattle.pages.proofs.entry.Entry.to_bytes.Goals as goal
+use Rattle.pages.proofs.entry.EntryLayoutENTRY_LEN.to_bytes.Goals as goal
 
 pub returns : goal.returns
 returns c =
