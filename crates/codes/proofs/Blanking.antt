@@ -1,6 +1,6 @@
 -- Counting the missing words of a column, and putting zeros in their places. Assumes nothing.
 use Rattle.std.proofs.Common.{◌≡◌, ℕ, zero, suc, ◌+◌, ◌<◌, Bool, true, false, cond, ◌≢◌, List, length, get_or, set, replicate, sym, refl, ap, ◌∙◌, inl, inr, le_of_suc-le-suc, add-zero, eq-or-lt_of_le, add-one, arith, get_or-set_other, get_or-set_same}
-use native.Mathlib.Decide.{ℕ_discrete}
+use Rattle.std.proofs.Math.Decide.{ℕ_discrete}
 use Rattle.codes.specs.Filling.{missing_count, Blanked}
 
 pub count_yes : (ms : List Bool) (i : ℕ) → get_or ms i false ≡ true → missing_count ms i + 1 ≡ missing_count ms (i + 1)

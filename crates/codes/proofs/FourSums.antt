@@ -1,6 +1,6 @@
 -- The four sums of a column, from its last four words and the check words of the sixteen in front. Assumes nothing.
 use Rattle.std.proofs.Common.{◌≡◌, ℕ, zero, suc, ◌+◌, ◌*◌, ◌^◌, ◌<◌, List, [], ◌∷◌, length, get_or, take, sym, refl, ap, ◌∙◌, subst, ap₂, arith}
-use lib.Bits.{bit_xor}
+use Rattle.std.specs.Int.Bits.{bit_xor}
 use Rattle.std.proofs.lemmas.List.{get_or-take, length-take-le}
 use Rattle.field.specs.Polynomials.{double, times, product, word_product}
 use Rattle.field.specs.Sums.{total, power, weighted}

@@ -1,6 +1,6 @@
 -- Missing words put into a blank column one by one. Assumes nothing.
 use Rattle.std.proofs.Common.{◌≡◌, ℕ, ◌+◌, ◌<◌, ◌≤◌, Bool, true, false, ◌≢◌, List, length, get_or, set, sym, refl, ap, ◌∙◌, arith, length-set, get_or-set_other, get_or-set_same}
-use native.Mathlib.Decide.{ℕ_discrete}
+use Rattle.std.proofs.Math.Decide.{ℕ_discrete}
 use Rattle.codes.specs.Filling.{missing_count, Keeps, Vanishes, FilledBySums}
 use Rattle.codes.proofs.Blanking.{clash, none-missing}
 

@@ -2,8 +2,8 @@ use mathlib.Core.Path.{◌≡◌, ap, ap₂, ◌∙◌}
 use mathlib.Core.List.{◌∷◌, []}
 use Prim.Native.Nat.{ℕ, zero, suc, ◌/◌, ◌%◌, ◌^◌, ◌<◌}
 use native.Mathlib.Omega.{arith}
-use lib.Dec.{lit<}
-use lib.Bits.{bit_xor, xor_lt}
+use Rattle.std.proofs.Math.Dec.{lit<}
+use Rattle.std.specs.Int.Bits.{bit_xor, xor_lt}
 use lib.ListN.{get_or}
 use borrow.Author.Rules.{rules}
 use Rattle.check_groups.specs.Groups.{numbers, number, next_word}

@@ -1,8 +1,8 @@
 use mathlib.Core.Path.{ap₂, ◌∙◌}
 use Prim.Native.Nat.{◌<◌, ◌^◌}
 use native.Mathlib.Omega.{arith}
-use lib.Dec.{lit<}
-use lib.Bits.{bit_xor}
+use Rattle.std.proofs.Math.Dec.{lit<}
+use Rattle.std.specs.Int.Bits.{bit_xor}
 use Rattle.check_groups.proofs.Lanes.{by_bytes}
 use Rattle.check_groups.proofs.group.products_2.Goals as goal
 

@@ -3,7 +3,7 @@ use native.Mathlib.Omega.{arith}
 use mathlib.Core.Bool.{Bool}
 use mathlib.Core.List.{List, [], ◌∷◌}
 use Prim.Native.Nat.{ℕ, ◌*◌, ◌<◌}
-use lib.Dec.{eqb, eqb→eq}
+use Rattle.std.proofs.Math.Dec.{eqb, eqb→eq}
 use lib.ListN.{get_or}
 use Rattle.field.specs.Polynomials.{double, times, product, word_product}
 use Rattle.check_groups.specs.Groups.{four}

@@ -1,5 +1,5 @@
 use Rattle.std.proofs.Common.{get_or, sym, refl, ap, ◌∙◌, ap₂, add-one}
-use lib.Bits.{bit_xor}
+use Rattle.std.specs.Int.Bits.{bit_xor}
 use Rattle.field.specs.Sums.{total}
 use Rattle.field.specs.Polynomials.{word_product}
 use Rattle.codes.proofs.four_check.combined.Goals as goal

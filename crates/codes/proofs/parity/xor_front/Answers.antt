@@ -1,5 +1,5 @@
 use Rattle.std.proofs.Common.{get_or, sym, refl, ap, ◌∙◌, add-one}
-use lib.Bits.{bit_xor}
+use Rattle.std.specs.Int.Bits.{bit_xor}
 use Rattle.field.specs.Sums.{total}
 use Rattle.codes.proofs.parity.xor_front.Goals as goal
 

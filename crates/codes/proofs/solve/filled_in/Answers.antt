@@ -1,5 +1,5 @@
 use Rattle.std.proofs.Common.{◌≡◌, ◌+◌, ◌≤◌, length, get_or, sym, ap, ◌∙◌, subst, arith, rules}
-use lib.Bits.{bit_xor, xor_zero_r}
+use Rattle.std.specs.Int.Bits.{bit_xor, xor_zero_r}
 use Rattle.codes.proofs.Patching.{Patched, patch_none, patch_more, patch-skip, patch_all}
 use Rattle.codes.proofs.Solving.{differs_from}
 use Rattle.codes.proofs.solve.filled_in.Goals as goal

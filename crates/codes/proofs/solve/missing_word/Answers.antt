@@ -1,5 +1,5 @@
 use Rattle.std.proofs.Common.{◌≡◌, ℕ, ◌+◌, ◌≤◌, List, get_or, sym, ap, ◌∙◌, subst, subst₂, inl, inr, arith}
-use lib.Bits.{bit_xor}
+use Rattle.std.specs.Int.Bits.{bit_xor}
 use Rattle.codes.proofs.Solving.{Held, held_start, held-skip, held-take, held_end}
 use Rattle.codes.proofs.solve.missing_word.Goals as goal
 use Rattle.codes.proofs.solve.missing_word.Goals.{then-marks-k+then-k-at, then-marks-k+else-k-at, else-marks-k}
