@@ -1,8 +1,5 @@
 -- Four products in one number: sums go by parts, and a word goes by its two bytes. Assumes nothing.
-use mathlib.Core.Path.{◌≡◌, sym, ap, ap₂, ◌∙◌}
-use Prim.Native.Nat.{ℕ, ◌+◌, ◌*◌, ◌/◌, ◌%◌, ◌^◌, ◌<◌}
-use native.Mathlib.Omega.{arith}
-use Rattle.std.proofs.Math.Dec.{lit<}
+use Rattle.std.proofs.Common.{◌≡◌, sym, ap, ap₂, ◌∙◌, ℕ, ◌+◌, ◌*◌, ◌/◌, ◌%◌, ◌^◌, ◌<◌, arith, lit<}
 use Rattle.std.specs.Int.Bits.{bit_xor, xor_block, xor_comm, xor_lt, xor_shifted}
 use Rattle.field.specs.Polynomials.{word_product}
 use Rattle.field.specs.TwoFields.{word_field_laws}

@@ -4,6 +4,7 @@
 --   number p q        by what word q of a group does
 --   next_word s g p   check word p behind a group g, if the check words before it are s
 --   four a b c d x    the products of x with four numbers, in one number of sixteen bits each
+--   products q x      those with the numbers of word q
 use Rattle.std.specs.Prelude.{ℕ, zero, suc, ◌+◌, ◌*◌, ◌^◌, List, [], ◌∷◌, get_or}
 use Rattle.std.specs.Int.Bits.{bit_xor}
 use Rattle.field.specs.Polynomials.{word_product}
@@ -23,3 +24,6 @@ next_word s g p = total (λ q. word_product (number p q) (bit_xor (s q) (g q))) 
 
 abbrev pub four : ℕ → ℕ → ℕ → ℕ → ℕ → ℕ
 four a b c d x = word_product a x + word_product b x * 2 ^ 16 + word_product c x * 2 ^ 32 + word_product d x * 2 ^ 48
+
+abbrev pub products : ℕ → ℕ → ℕ
+products q x = four (number 0 q) (number 1 q) (number 2 q) (number 3 q) x
