@@ -1,6 +1,5 @@
 // Every column of a work area rebuilt.
 ghost use Rattle.std.specs.Prelude.{◌≡◌, ℕ, ◌+◌, ◌%◌, ◌<◌, ◌≤◌, true, false, ◌≢◌, length, slice_index};
-ghost use Rattle.std.proofs.Math.Option.{some, none};
 ghost use Rattle.refusal.specs.Tells.{told};
 ghost use Rattle.codes.specs.Filling.{missing_count};
 ghost use Rattle.columns.specs.Columns.{column, right_column, Rebuilds, RebuildsAll};
@@ -26,8 +25,8 @@ fn rebuild_column<K: CheckCode>(code: &K, work: &mut [u8], marks: [bool; 20], c:
     requires sized { length work.old ≡ 165120 }
     requires within { c < 4114 }
     requires few { missing_count marks (16 + (K.CheckCode.code code.now).r) ≤ (K.CheckCode.code code.now).r }
-    ensures found { result ≡ true → right_column (K.CheckCode.code code.now) work.old marks c ≡ some (column work.new c) }
-    ensures lacking { result ≡ false → right_column (K.CheckCode.code code.now) work.old marks c ≡ none }
+    ensures found { result ≡ true → right_column (K.CheckCode.code code.now) work.old marks c ≡ Some (column work.new c) }
+    ensures lacking { result ≡ false → right_column (K.CheckCode.code code.now) work.old marks c ≡ None }
     ensures kept { result ≡ false → work.new ≡ work.old }
     ensures others { (k : ℕ) → k < 4114 → k ≢ c → column work.new k ≡ column work.old k }
     ensures uncovered { (q : ℕ) → 8228 ≤ q % 8256 → slice_index work.new q ≡ slice_index work.old q }
