@@ -1,12 +1,12 @@
 // One group of the four-check code: four words and the check words before them become the check words behind.
-ghost use Rattle.std.specs.Prelude.{◌≡◌, ℕ, ◌<◌, get_or};
-ghost use Rattle.check_groups.specs.Groups.{next_word, products};
+ghost use Rattle.std.specs.Prelude.{◌≡◌, ◌<◌};
+ghost use Rattle.check_groups.specs.Groups.{next_words, products};
 
 use crate::tables::product;
 
 // The check words of what came before and this group.
 pub fn next(state: [u16; 4], group: [u16; 4]) -> [u16; 4]
-    ensures { (p : ℕ) → p < 4 → get_or result p 0 ≡ next_word (λ q. get_or state q 0) (λ q. get_or group q 0) p }
+    ensures { result ≡ next_words state group }
 {
     let all = products(0, state[0] ^ group[0])
         ^ products(1, state[1] ^ group[1])

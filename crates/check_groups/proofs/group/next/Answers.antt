@@ -1,4 +1,4 @@
-use Rattle.std.proofs.Common.{◌≡◌, ℕ, zero, suc, ◌/◌, ◌%◌, ◌^◌, ◌<◌, [], ◌∷◌, get_or, ap, ◌∙◌, ap₂, arith, lit<, rules, bit_xor}
+use Rattle.std.proofs.Common.{◌≡◌, refl, ℕ, zero, suc, ◌/◌, ◌%◌, ◌^◌, ◌<◌, [], ◌∷◌, get_or, ap, ◌∙◌, ap₂, arith, lit<, rules, bit_xor}
 use Rattle.std.specs.Int.Bits.{xor_lt}
 use Rattle.check_groups.specs.Groups.{number, next_word}
 use Rattle.check_groups.proofs.Lanes.{pack, lane, lane-lt, joined, lane_0, lane_1, lane_2, lane_3}
@@ -6,7 +6,7 @@ use Rattle.check_groups.proofs.LanesNext.{number_lt, lane_next}
 use Rattle.check_groups.proofs.group.next.Goals as goal
 
 pub returns : goal.returns
-returns c = at
+returns c = ap₂ ◌∷◌ w0 (ap₂ ◌∷◌ w1 (ap₂ ◌∷◌ w2 (ap₂ ◌∷◌ w3 refl)))
   where
     s : ℕ → ℕ
     s q = get_or c.args.state q 0
@@ -50,19 +50,23 @@ returns c = at
     r3 : c.from_le_bytes-4.result ≡ all / 281474976710656 % 65536
     r3 = search rules
 
-    at : (p : ℕ) → p < 4
-        → get_or (c.from_le_bytes.result ∷ c.from_le_bytes-2.result ∷ c.from_le_bytes-3.result ∷ c.from_le_bytes-4.result ∷ []) p 0
-        ≡ next_word s g p
-    at zero h = r0 ∙ ap (λ z. z % 65536) packed ∙ lane_0 (l 0) (l 1) (l 2) (l 3) (lt 0 (lit< tt)) ∙ lane_next s g x_lt 0
-    at (suc zero) h =
+    w0 : c.from_le_bytes.result ≡ next_word s g 0
+    w0 =
+        r0 ∙ ap (λ z. z % 65536) packed ∙ lane_0 (l 0) (l 1) (l 2) (l 3) (lt 0 (lit< tt)) ∙ lane_next s g x_lt 0
+
+    w1 : c.from_le_bytes-2.result ≡ next_word s g 1
+    w1 =
         r1 ∙ ap (λ z. z / 65536 % 65536) packed ∙ lane_1 (l 0) (l 1) (l 2) (l 3) (lt 0 (lit< tt)) (lt 1 (lit< tt))
         ∙ lane_next s g x_lt 1
-    at (suc (suc zero)) h =
+
+    w2 : c.from_le_bytes-3.result ≡ next_word s g 2
+    w2 =
         r2 ∙ ap (λ z. z / 4294967296 % 65536) packed
         ∙ lane_2 (l 0) (l 1) (l 2) (l 3) (lt 0 (lit< tt)) (lt 1 (lit< tt)) (lt 2 (lit< tt))
         ∙ lane_next s g x_lt 2
-    at (suc (suc (suc zero))) h =
+
+    w3 : c.from_le_bytes-4.result ≡ next_word s g 3
+    w3 =
         r3 ∙ ap (λ z. z / 281474976710656 % 65536) packed
         ∙ lane_3 (l 0) (l 1) (l 2) (l 3) (lt 0 (lit< tt)) (lt 1 (lit< tt)) (lt 2 (lit< tt)) (lt 3 (lit< tt))
         ∙ lane_next s g x_lt 3
-    at (suc (suc (suc (suc p)))) h = absurd (omega arith)
