@@ -12,6 +12,7 @@
 use Rattle.std.specs.Prelude.{◌≡◌, ℕ, ◌+◌, ◌-◌, ◌*◌, ◌/◌, ◌%◌, ◌<◌, ◌≤◌, Bool, true, false, cond, ◌&&◌, List, [], ◌∷◌, ◌++◌, map, length, take, replicate, Ok, Err, ◌==◌, nat_le, nat_lt, slice_index, Option, Some, None}
 use Rattle.std.specs.List.{range_with_len}
 use Rattle.refusal.specs.Tells.{Answer, and_then}
+use Rattle.refusal.specs.Lengths.{of_length}
 use Rattle.codes.specs.Code.{Code}
 use Rattle.codes.specs.Rebuild.{seen, rebuild}
 use Rattle.codes.specs.Filling.{missing_count}
@@ -20,7 +21,7 @@ abbrev pub work_len : ℕ
 work_len = 165120
 
 abbrev pub judged_work : ℕ → Answer (Unit {0})
-judged_work n = cond (n == work_len) (Ok tt) (Err (1, n ∷ []))
+judged_work n = of_length work_len n tt
 
 abbrev pub word_at : List ℕ → ℕ → ℕ → ℕ
 word_at work i c = slice_index work (i * 8256 + 2 * c) + 256 * slice_index work (i * 8256 + 2 * c + 1)

@@ -10,5 +10,5 @@ loop-c-preserved g c =
     c.loop-c.work c.put_checks.new.work
     c.check_words-checks.result c.loop-c.c (search rules)
     (c.check_words-checks.ensures ∙ ap (check_four (g.K.CheckCode.code c.args.code.now))
-    c.data_words.ensures) c.loop-c.invariant.0 c.loop-c.invariant.1
+    c.words_at.ensures) c.loop-c.invariant.0 c.loop-c.invariant.1
     c.put_checks.ensures.here c.put_checks.ensures.elsewhere c.put_checks.ensures.others

@@ -5,6 +5,6 @@ use Rattle.columns.proofs.make.put_checks.Given as goal
 
 abbrev pub invariant-loop-j : goal.invariant-loop-j
 invariant-loop-j l =
-    ((j : ℕ) → j < l.j → word_at l.work (16 + j) l.c ≡ get_or l.checks j 0)
+    ((j : ℕ) → j < l.j → word_at l.work (16 + j) l.c ≡ get_or l.fn.checks j 0)
     × ((j k : ℕ) → k < 4114 → k ≢ l.c → word_at l.work (16 + j) k ≡ word_at l.initial.work (16 + j) k)
     × ((q : ℕ) → is_check l.r q ≡ false → get_or l.work q 0 ≡ get_or l.initial.work q 0)
