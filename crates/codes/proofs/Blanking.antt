@@ -13,9 +13,6 @@ pub zeros-long : (n : ℕ) → length (replicate {A = ℕ} n 0) ≡ n
 zeros-long zero = refl
 zeros-long (suc n) = ap suc (zeros-long n)
 
-pub clash : (b : Bool) → b ≡ true → b ≡ false → ⊥
-clash b p q = let z : ◌≡◌ {A = ℕ} 0 1 = cc in omega arith
-
 pub blank_all : (column : List ℕ) (ms : List Bool) (n : ℕ) (out : List ℕ) → length column ≡ 20 → length out ≡ 20
     → ((i : ℕ) → i < 20 → get_or out i 0 ≡ cond (ltb i n && not (get_or ms i false)) (get_or column i 0) 0)
     → Blanked column ms n out

@@ -42,5 +42,6 @@ check_words_by_groups ws long small =
     more : (n : ℕ) (rest s : List ℕ) → n + 4 < 17 → ((q : ℕ) → get_or rest q 0 ≡ w (n + q)) → Carried w n s
         → Carried w (n + 4) (next_words s (take 4 rest))
     more n rest s h at c =
-        carried_more w n s (take 4 rest) _ (λ q l. small (n + q) (omega arith)) (λ q l. get_or-take 4 rest q 0 l ∙ at q) refl
+        carried_more w n s (take 4 rest) _ (λ q l. small (n + q) (omega arith))
+        (λ q l. get_or-take 4 rest q 0 l ∙ at q) refl
         (next_at s (take 4 rest)) c

@@ -4,7 +4,7 @@ ghost use Rattle.codes.specs.Filling.{Blanked, missing_count};
 
 use std::array;
 
-// How many of the first n words are missing. Counted in a loop: as compiled, `filter` and `count` take ten times as long.
+// How many of the first n words are missing. A loop, since `filter` and `count` compile to ten times the time.
 pub(crate) fn count_missing(marks: &[bool; 20], n: usize) -> usize
     requires { n ≤ 20 }
     ensures { result ≡ missing_count marks.now n }

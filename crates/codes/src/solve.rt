@@ -6,6 +6,7 @@ use field::Field;
 use std::array;
 
 // The blank column with each missing word as its sums ask for it; `totals` are the sums of the blank column.
+// The field, r, totals and marks are parameters: as a struct's fields they would make each clause here longer.
 pub(crate) fn filled_in<F: Field>(
     field: &F,
     r: usize,

@@ -1,4 +1,4 @@
--- Where few words are missing, an answer of a code is the right column, and a refusal says that there is none. Assumes nothing.
+-- Where few words are missing, a code answers the right column, or refuses since there is none. Assumes nothing.
 use Rattle.std.proofs.Common.{◌≡◌, ℕ, ◌+◌, ◌≤◌, Bool, cond, List, [], ◌∷◌, replicate, Ok, Err, sym, refl, ap, ◌∙◌, subst, le-ltb, Option, Some, None}
 use Rattle.refusal.specs.Tells.{Answer}
 use Rattle.codes.specs.Code.{Code}

@@ -1,4 +1,4 @@
--- Words written into a work area, column by column. Assumes nothing.
+-- Words of a work area, column by column. Assumes nothing.
 use Rattle.std.proofs.Common.{◌≡◌, ℕ, ◌+◌, ◌*◌, ◌/◌, ◌%◌, ◌<◌, ◌≤◌, ◌≢◌, List, length, get_or, take, set, sym, ◌∙◌, lit≤, arith, length-set}
 use Rattle.std.proofs.Math.Nat.{div-add-mod}
 use Rattle.std.proofs.lemmas.List.{get_or-set_same, get_or-set_other, get_or-take, ext_get_or, length-take-le, take_all}
@@ -40,23 +40,3 @@ pub front_same : (bs es : List ℕ) (c : ℕ) → ((k : ℕ) → k < 16 → word
 front_same bs es c h =
     words-made bs (take 16 (column es c)) c 16 (lit≤ tt) (length-take-le 16 (column es c) (omega (arith, column-long es c)))
     (λ k p. get_or-take 16 (column es c) k 0 p ∙ column-word es c k (omega arith) ∙ h k p)
-
--- the word at two bytes just written, and at two others
-pub written : List ℕ → ℕ → ℕ → List ℕ
-written bs p w = set (set bs p (w % 256)) (p + 1) (w / 256)
-
-module _ (bs : List ℕ) (p w : ℕ) (h : p + 1 < length bs) where
-  pub written_here : get_or (written bs p w) p 0 + 256 * get_or (written bs p w) (p + 1) 0 ≡ w
-  unfolding written
-  written_here =
-      let ne : p ≢ p + 1 = omega arith in
-      let a = get_or-set_other (set bs p (w % 256)) (p + 1) p (w / 256) 0 ne
-      ∙ get_or-set_same bs p (w % 256) 0 (omega arith) in
-      let b = get_or-set_same (set bs p (w % 256)) (p + 1) (w / 256) 0 (simp length-set (omega arith)) in
-      let d = div-add-mod w 256 in
-      omega (arith, a, b, d)
-
-  pub written_there : (q : ℕ) → q ≢ p → q ≢ p + 1 → get_or (written bs p w) q 0 ≡ get_or bs q 0
-  unfolding written
-  written_there q n m = get_or-set_other (set bs p (w % 256)) (p + 1) q (w / 256) 0 m
-      ∙ get_or-set_other bs p q (w % 256) 0 n

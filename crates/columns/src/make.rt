@@ -7,15 +7,16 @@ use crate::words::{WORDS, put_word, words_at};
 use codes::CheckCode;
 use refusal::{Refusal, WORK_LEN};
 
-// Puts the first r of four words under the data words of column c.
-fn put_checks(work: &mut [u8; WORK_LEN], c: usize, r: usize, checks: [u16; 4])
+// Puts check words under the data words of column c.
+fn put_checks(work: &mut [u8; WORK_LEN], c: usize, checks: &[u16])
     requires within { c < 4114 }
-    requires few { r ≤ 4 }
-    ensures here { (j : ℕ) → j < r → word_at work.new (16 + j) c ≡ slice_index checks j }
+    requires few { length checks.now ≤ 4 }
+    ensures here { (j : ℕ) → j < length checks.now → word_at work.new (16 + j) c ≡ slice_index checks.now j }
     ensures elsewhere { (j k : ℕ) → k < 4114 → k ≢ c → word_at work.new (16 + j) k ≡ word_at work.old (16 + j) k }
-    ensures others { (q : ℕ) → is_check r q ≡ false → slice_index work.new q ≡ slice_index work.old q }
+    ensures others { (q : ℕ) → is_check (length checks.now) q ≡ false
+        → slice_index work.new q ≡ slice_index work.old q }
 {
-    for (j, check) in checks[..r].iter().enumerate() {
+    for (j, check) in checks.iter().enumerate() {
         put_word(work, 16 + j, c, *check);
     }
 }
@@ -37,6 +38,6 @@ fn check_all<K: CheckCode>(code: &K, work: &mut [u8; WORK_LEN])
     let r = code.r();
     for c in 0..WORDS {
         let checks = code.check_words(words_at(work, c));
-        put_checks(work, c, r, checks);
+        put_checks(work, c, &checks[..r]);
     }
 }

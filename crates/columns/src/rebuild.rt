@@ -29,7 +29,8 @@ fn rebuild_column<K: CheckCode>(
 ) -> bool
     requires within { c < 4114 }
     requires few { missing_count marks (16 + (K.CheckCode.code code.now).r) ≤ (K.CheckCode.code code.now).r }
-    ensures found { result ≡ true → right_column (K.CheckCode.code code.now) work.old marks c ≡ Some (column work.new c) }
+    ensures found { result ≡ true
+        → right_column (K.CheckCode.code code.now) work.old marks c ≡ Some (column work.new c) }
     ensures lacking { result ≡ false → right_column (K.CheckCode.code code.now) work.old marks c ≡ None }
     ensures kept { result ≡ false → work.new ≡ work.old }
     ensures others { (k : ℕ) → k < 4114 → k ≢ c → column work.new k ≡ column work.old k }

@@ -22,7 +22,8 @@ fn word(work: &[u8; WORK_LEN], i: usize, c: usize) -> u16
 pub(crate) fn put_word(work: &mut [u8; WORK_LEN], i: usize, c: usize, word: u16)
     requires block { i < 20 }
     requires word { c < 4114 }
-    ensures { let at = i * 8256 + 2 * c in work.new ≡ slice_set (slice_set work.old at (word % 256)) (at + 1) (word / 256) }
+    ensures { let at = i * 8256 + 2 * c in
+        work.new ≡ slice_set (slice_set work.old at (word % 256)) (at + 1) (word / 256) }
 {
     let at = i * BLOCK_LEN + 2 * c;
     let [low, high] = word.to_le_bytes();

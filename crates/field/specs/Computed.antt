@@ -56,7 +56,8 @@ row_from : (f : ℕ → ℕ → ℕ → Bool) (n : ℕ) (rows : List (List ℕ))
     → (q k : ℕ) → q < length rows → k < n → T (f (i + q) k (slice_index (slice_index_or rows q d) k))
 row_from f n [] i t d q k h l = absurd (not-suc-le-zero h)
 row_from f n (r ∷ rs) i t d zero k h l =
-    let entries : T (every (f i) 0 r) = both_left (every (f i) 0 r) (every_row f n (suc i) rs) (both_right (length r == n) _ t) in
+    let entries : T (every (f i) 0 r) =
+    both_left (every (f i) 0 r) (every_row f n (suc i) rs) (both_right (length r == n) _ t) in
     let long : length r ≡ n = eqb→eq (length r) n (both_left (length r == n) _ t) in
     subst (λ (m : ℕ). T (f m k (slice_index r k))) (sym (add-zero i))
     (at (f i) r entries k (subst (λ (m : ℕ). k < m) (sym long) l))
@@ -68,4 +69,5 @@ row_from f n (r ∷ rs) i t d (suc q) k h l =
 pub at_row : (f : ℕ → ℕ → ℕ → Bool) (n : ℕ) (rows : List (List ℕ)) → T (every_row f n 0 rows) → (d : List ℕ)
     → (q k : ℕ) → q < length rows → k < n → T (f q k (slice_index (slice_index_or rows q d) k))
 at_row f n rows t d q k h l =
-    subst (λ (m : ℕ). T (f m k (slice_index (slice_index_or rows q d) k))) (zero-add q) (row_from f n rows 0 t d q k h l)
+    subst (λ (m : ℕ). T (f m k (slice_index (slice_index_or rows q d) k))) (zero-add q)
+    (row_from f n rows 0 t d q k h l)

@@ -4,7 +4,7 @@ ghost use Rattle.field.specs.Polynomials.{stands_for, times, word_product};
 
 use crate::tables::{above, nibble_times_byte};
 
-// Modulo 1100Bh, for every word.
+// Modulo 1100Bh, for every word. A loop over the four places would need a shift and a step, and say no more.
 pub(crate) fn multiply(a: u16, b: u16) -> u16
     ensures { result ≡ word_product a b }
 {

@@ -12,4 +12,5 @@ pub returns : goal.returns
 unfolding right times double
 returns c =
     let h : c.args.x < 256 = omega (arith, c.ranges.x) in
-    eqb→eq _ (times 15 0x1100B 8 (one_above c.args.k) c.args.x) (at_row right 256 ABOVE tt _ c.args.k c.args.x c.requires h)
+    eqb→eq _ (times 15 0x1100B 8 (one_above c.args.k) c.args.x)
+    (at_row right 256 ABOVE tt _ c.args.k c.args.x c.requires h)
