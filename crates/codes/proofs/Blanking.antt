@@ -9,10 +9,6 @@ zeros_at zero k = refl
 zeros_at (suc n) zero = refl
 zeros_at (suc n) (suc k) = zeros_at n k
 
-pub zeros-long : (n : ℕ) → length (replicate {A = ℕ} n 0) ≡ n
-zeros-long zero = refl
-zeros-long (suc n) = ap suc (zeros-long n)
-
 pub blank_all : (column : List ℕ) (ms : List Bool) (n : ℕ) (out : List ℕ) → length column ≡ 20 → length out ≡ 20
     → ((i : ℕ) → i < 20 → get_or out i 0 ≡ cond (ltb i n && not (get_or ms i false)) (get_or column i 0) 0)
     → Blanked column ms n out

@@ -10,7 +10,7 @@
 --   rebuilt code column marks    the same, of a column and its marks
 --   Settles code column marks answer  the law of an answer: right, agreeing and the only one; or refused for cause
 use Rattle.std.specs.Prelude.{◌≡◌, ℕ, zero, suc, ◌+◌, ◌-◌, ◌<◌, ◌≤◌, Bool, true, false, cond, ◌&&◌, List, [], ◌∷◌, ◌++◌, map, take, drop, replicate, Ok, Err, ◌==◌, nat_lt, slice_index, slice_index_or, Option, Some, None}
-use Rattle.std.specs.List.{range_with_len}
+use Rattle.std.specs.List.{find, range_with_len}
 use Rattle.refusal.specs.Tells.{Answer}
 use Rattle.codes.specs.Code.{Code, Right}
 
@@ -47,13 +47,6 @@ unfoldable pub fillings : List (Option ℕ) → List (List ℕ)
 fillings [] = [] ∷ []
 fillings (Some u ∷ c) = each_then (u ∷ []) (fillings c)
 fillings (None ∷ c) = each_then (below 65536) (fillings c)
-
--- the first column that passes a test
-unfoldable pub find : (List ℕ → Bool) → List (List ℕ) → Option (List ℕ)
-find f [] = None
-find f (w ∷ ws) =
-    let later : Option (List ℕ) = find f ws in
-    cond (f w) (Some w) later
 
 abbrev pub same_list : List ℕ → List ℕ → Bool
 same_list [] [] = true

@@ -3,7 +3,8 @@ use Rattle.std.specs.Prelude.{◌≡◌, ℕ, zero, suc, ◌<◌, ◌≤◌, Boo
 use Rattle.std.proofs.Common.{sym, ap, ap₂, ◌∙◌, subst, inl, inr, zero-le, suc-le-suc, le_of_suc-le-suc, not-suc-le-zero, le_refl, le_trans, eqb→eq}
 use Rattle.std.proofs.Math.Nat.{le-suc}
 use Rattle.std.proofs.Math.Dec.{eqb_refl}
-use Rattle.codes.specs.Rebuild.{Agrees, fillings, below, each_then, find, same_list}
+use Rattle.std.specs.List.{find}
+use Rattle.codes.specs.Rebuild.{Agrees, fillings, below, each_then, same_list}
 
 pub is_true : (b : Bool) → T b → b ≡ true
 is_true true t = refl
@@ -141,7 +142,6 @@ not_first f (later k) t e = k
 
 pub find_only : (f : List ℕ → Bool) (wss : List (List ℕ)) (w : List ℕ) → Among w wss → T (f w)
     → ((u : List ℕ) → Among u wss → T (f u) → u ≡ w) → find f wss ≡ Some w
-unfolding find
 find_only f [] w h t one = elim h [ ]
 find_only f (x ∷ xs) w h t one = go (f x) refl (λ k. find_only f xs w k t (λ u j. one u (later j)))
   where
@@ -151,7 +151,6 @@ find_only f (x ∷ xs) w h t one = go (f x) refl (λ k. find_only f xs w k t (λ
 
 pub find_none : (f : List ℕ → Bool) (wss : List (List ℕ)) → ((w : List ℕ) → Among w wss → T (f w) → ⊥)
     → find f wss ≡ None
-unfolding find
 find_none f [] h = refl
 find_none f (x ∷ xs) h = go (f x) (h x first) (find_none f xs (λ w a t. h w (later a) t))
   where

@@ -1,5 +1,5 @@
 -- Codes whose check words make sums zero are lawful, and their right columns are those of zero sums. Assumes nothing.
-use Rattle.std.specs.Prelude.{◌≡◌, ℕ, zero, suc, ◌+◌, ◌-◌, ◌<◌, ◌≤◌, Bool, cond, ◌&&◌, T, List, [], ◌∷◌, ◌++◌, map, length, take, drop, replicate, ◌==◌, slice_index, refl, Option, Some, None}
+use Rattle.std.specs.Prelude.{◌≡◌, ℕ, zero, suc, ◌+◌, ◌-◌, ◌<◌, ◌≤◌, Bool, cond, ◌&&◌, T, List, [], ◌∷◌, ◌++◌, map, length, take, drop, replicate, ◌==◌, slice_index, refl, Option, Some, None, unwrap_or}
 use Rattle.std.proofs.Common.{sym, ◌∙◌, ap, ap₂, subst, zero-le, eq-or-lt_of_le, le_of_suc-le-suc, le_trans, le_refl, zero-add, inl, inr, eqb→eq, lit<, length-append, not-suc-le-zero}
 use Rattle.std.proofs.Math.Nat.{suc-ne-zero, suc_inj, le-suc, le-add_right, add-le-add, add-sub_cancel_left}
 use Rattle.std.proofs.Math.Dec.{eqb_refl}
@@ -9,7 +9,7 @@ use Rattle.field.specs.Sums.{weighted}
 use Rattle.field.specs.TwoFields.{word_field_laws, word_differ}
 use Rattle.codes.specs.Code.{AllWords, Code, Right, Lawful, differences}
 use Rattle.codes.specs.Rebuild.{Agrees, missing, fillings}
-use Rattle.codes.specs.TwoCodes.{sum, zero_sums, SumsAreZero, by_sums, or_nothing, SumsMakeRight}
+use Rattle.codes.specs.TwoCodes.{sum, zero_sums, SumsAreZero, by_sums, SumsMakeRight}
 use Rattle.codes.specs.Filling.{Vanishes}
 use Rattle.codes.specs.Searching.{is_true, and_left, and_right, agrees_among, among-agrees, find_only}
 use Rattle.codes.specs.Agreeing.{at_most_one, differ-missing, same_length, still-words, words_small}
@@ -80,7 +80,7 @@ pub solution : (r : ℕ) (ws cs : List ℕ) → r ≤ 4 → length ws ≡ 16 →
     → by_sums r ws ≡ cs
 unfolding by_sums
 solution r ws cs r4 lw aw lc ac z =
-    ap (λ o. drop (length ws) (or_nothing o))
+    ap (λ o. drop (length ws) (unwrap_or o []))
     (find_only (zero_sums r) (fillings gaps) (ws ++ cs) (agrees_among gaps (ws ++ cs) fits) (zero_test r (ws ++ cs) z)
     (λ u k t.
     let a : Agrees gaps u = among-agrees gaps u k in

@@ -1,5 +1,5 @@
 -- Which bytes of a work area are under check words. Assumes nothing.
-use Rattle.std.proofs.Common.{◌≡◌, ℕ, ◌+◌, ◌*◌, ◌/◌, ◌%◌, ◌<◌, Bool, true, false, ◌&&◌, ltb, leb, ap, ◌∙◌, ap₂, arith, lt-ltb, le-leb}
+use Rattle.std.proofs.Common.{◌≡◌, ℕ, ◌+◌, ◌*◌, ◌/◌, ◌%◌, ◌<◌, Bool, false, ◌&&◌, ltb, leb, ap, ◌∙◌, arith}
 use borrow.Author.Tests.{lt-leb}
 use Rattle.columns.specs.Columns.{is_check}
 
