@@ -1,11 +1,11 @@
 #!/usr/bin/env python3
-"""Writes the tables of crate check_groups, and the proofs that hold the same entries: tools/group_tables.py, then rt fmt
+"""Writes the table of crate check_groups: tools/group_tables.py
 
-Table low_q has at byte x the products of x with the four numbers by which word q of a group goes into the check words
-behind it, sixteen bits each, the first lowest; table high_q has those of 256 times x.
+PRODUCTS has for word q of a group, its low byte (0) or its high byte (1), at place x the products of x, or of 256 times
+x, with the four numbers by which that word goes into the check words behind the group, sixteen bits each, the first
+lowest. The checker computes each entry from its rule, so a fault in this script cannot pass it.
 """
 import os
-import textwrap
 
 ROOT = os.path.join(os.path.dirname(os.path.abspath(__file__)), '..', 'crates', 'check_groups')
 WIDTH, POLYNOMIAL = 16, 0x1100B
@@ -49,61 +49,37 @@ def numbers():
     return rows
 
 
-def wrapped(items, joint, indent):
-    text = joint.join(items)
-    return textwrap.fill(text, 118, initial_indent=indent, subsequent_indent=indent, break_on_hyphens=False)
+def entry(q, x):
+    return sum(product(row[q], x) << (16 * p) for p, row in enumerate(ROWS))
 
 
-def write(path, text):
-    path = os.path.join(ROOT, path)
-    os.makedirs(os.path.dirname(path), exist_ok=True)
-    with open(path, 'w') as f:
-        f.write(text)
+def lines(entries):
+    """Five entries to a line."""
+    words = ['0x%016X' % e for e in entries]
+    return ''.join('            ' + ', '.join(words[i:i + 5]) + ',\n' for i in range(0, len(words), 5))
 
 
 ROWS = numbers()
+tables = ''
 for q in range(4):
-    four = [ROWS[p][q] for p in range(4)]
-    rule = 'four ' + ' '.join('0x%04X' % c for c in four)
-    source = f'''// Products of word {q} of a group, by its bytes. Written by tools/group_tables.py.
-ghost use Rattle.std.specs.Prelude.{{◌≡◌, ◌*◌}};
-ghost use Rattle.check_groups.specs.Groups.{{four}};
-'''
-    for name, shift in (('low', 1), ('high', 256)):
-        entries = [sum(product(c, x * shift) << (16 * p) for p, c in enumerate(four)) for x in range(256)]
-        table = f'{name.upper()}_{q}'
-        source += f'\nconst {table}: [u64; 256] = [\n' + ''.join(f'    0x{e:016X},\n' for e in entries) + f'''];
+    parts = [lines(entry(q, x * shift) for x in range(256)) for shift in (1, 256)]
+    tables += '    [\n' + ''.join(f'        [\n{part}        ],\n' for part in parts) + '    ],\n'
+with open(os.path.join(ROOT, 'src', 'tables.rt'), 'w') as f:
+    f.write(f'''// Products of the words of a group, by their bytes. Written by tools/group_tables.py.
+ghost use Rattle.std.specs.Prelude.{{◌≡◌, ◌*◌, ◌^◌, ◌<◌}};
+ghost use Rattle.check_groups.specs.Groups.{{products}};
 
-pub fn {name}_{q}(x: u8) -> u64
-    ensures {{ result ≡ {rule} (x * {shift}) }}
+// By word, byte of the word, and value of the byte.
+#[rattlefmt::skip]
+const PRODUCTS: [[[u64; 256]; 2]; 4] = [
+{tables}];
+
+// The products of a byte, at its place in the word of this position.
+pub(crate) fn product(position: usize, byte: usize, x: u8) -> u64
+    requires position {{ position < 4 }}
+    requires byte {{ byte < 2 }}
+    ensures {{ result ≡ products position (x * 256 ^ byte) }}
 {{
-    {table}[x as usize]
+    PRODUCTS[position][byte][x as usize]
 }}
-'''
-        write(f'proofs/word_{q}/{name}_{q}/Answers.antt', f'''-- The entries of a table, by one computed test. Written by tools/group_tables.py. Assumes nothing.
-use native.Mathlib.Omega.{{arith}}
-use mathlib.Core.Bool.{{Bool}}
-use mathlib.Core.List.{{List, [], ◌∷◌}}
-use Prim.Native.Nat.{{ℕ, ◌*◌, ◌<◌}}
-use lib.Dec.{{eqb, eqb→eq}}
-use lib.ListN.{{get_or}}
-use Rattle.field.specs.Polynomials.{{double, times, product, word_product}}
-use Rattle.check_groups.specs.Groups.{{four}}
-use Rattle.field.specs.Computed.{{at}}
-use Rattle.check_groups.proofs.word_{q}.{name}_{q}.Goals as goal
-
-entries : List ℕ
-entries =
-''' + wrapped([str(e) for e in entries] + ['[]'], ' ∷ ', '    ') + f'''
-
-right : ℕ → ℕ → Bool
-right k e = eqb e ({rule} (k * {shift}))
-
-pub returns : goal.returns
-unfolding entries right word_product product times double
-returns c =
-    let h : c.args.x < 256 = omega (arith, c.ranges.x) in
-    eqb→eq (get_or entries c.args.x 0) ({rule} (c.args.x * {shift}))
-    (at right entries tt c.args.x h)
 ''')
-    write(f'src/word_{q}.rt', source)

@@ -1,12 +1,12 @@
 #!/usr/bin/env python3
-"""Writes the tables of crate field, and the proofs that hold the same entries: tools/product_tables.py, then rt fmt
+"""Writes the tables of crate field: tools/product_tables.py, then rt fmt in crates/field
 
-NIBBLES has at 256 times n plus y the product of the byte y and the four bits n as polynomials, with nothing reduced.
-POINTS has the first twenty powers of 2, and GAPS at 20 times i plus k the inverse of the sum of powers i and k.
-ABOVE_16 and ABOVE_24 have at x what x stands for, modulo 1100Bh, where it stands 16 or 24 places up.
+NIBBLES has in row n at place y the product of the byte y and the four bits n as polynomials, with nothing reduced.
+ABOVE has in row k at place x what x stands for, modulo 1100Bh, where it stands 16 + 8 * k places up.
+POINTS has the first twenty powers of 2, and GAPS in row i at place k the inverse of the sum of powers i and k.
+The checker computes each entry from its rule, so a fault in this script cannot pass it.
 """
 import os
-import textwrap
 
 ROOT = os.path.join(os.path.dirname(os.path.abspath(__file__)), '..', 'crates', 'field')
 POLYNOMIAL = 0x1100B
@@ -29,93 +29,6 @@ def reduced(v):
     return v
 
 
-def wrapped(items, joint, indent):
-    return textwrap.fill(joint.join(items), 118, initial_indent=indent, subsequent_indent=indent, break_on_hyphens=False)
-
-
-def write(path, text):
-    path = os.path.join(ROOT, path)
-    os.makedirs(os.path.dirname(path), exist_ok=True)
-    with open(path, 'w') as f:
-        f.write(text)
-
-
-HEAD = '''-- The entries of a table, by one computed test. Written by tools/product_tables.py. Assumes nothing.
-use Rattle.std.proofs.Common.{WORDS}
-use Rattle.field.specs.Polynomials.{double, times}
-use Rattle.field.specs.Computed.{at}
-'''
-NIBBLE_WORDS = '◌≡◌, ℕ, ◌+◌, ◌*◌, ◌/◌, ◌%◌, ◌<◌, Bool, eqb, List, [], ◌∷◌, get_or, ◌∙◌, ap₂, arith, eqb→eq'
-ABOVE_WORDS = 'ℕ, ◌<◌, Bool, eqb, List, [], ◌∷◌, get_or, arith, eqb→eq'
-
-
-def list_of(entries):
-    return 'entries : List ℕ\nentries =\n' + wrapped([str(e) for e in entries] + ['[]'], ' ∷ ', '    ') + '\n'
-
-
-nibbles = [unreduced(k % 256, k // 256) for k in range(4096)]
-above = {16: [reduced(x << 16) for x in range(256)], 24: [reduced(x << 24) for x in range(256)]}
-source = '''// Tables for products of two-byte words. Written by tools/product_tables.py.
-ghost use Rattle.std.specs.Prelude.{◌≡◌, ◌<◌};
-ghost use Rattle.field.specs.Polynomials.{times};
-
-const NIBBLES: [u16; 4096] = [
-''' + wrapped(['0x%03X' % e for e in nibbles], ', ', '    ') + ''',
-];
-
-// A byte times four bits, with nothing reduced.
-pub fn nibble_times_byte(n: u16, y: u16) -> u16
-    requires { (n < 16) × (y < 256) }
-    ensures { result ≡ times 15 0 4 y n }
-{
-    NIBBLES[(256 * n + y) as usize]
-}
-'''
-write('proofs/tables/nibble_times_byte/Answers.antt', HEAD.replace('WORDS', NIBBLE_WORDS) + '''use Rattle.field.proofs.tables.nibble_times_byte.Goals as goal
-
-''' + list_of(nibbles) + '''
-right : ℕ → ℕ → Bool
-right k e = eqb e (times 15 0 4 (k % 256) (k / 256))
-
-pub returns : goal.returns
-unfolding entries right times double
-returns c =
-    let k : ℕ = 256 * c.args.n + c.args.y in
-    let h : 256 * c.args.n + c.args.y < 4096 = omega (arith, c.requires) in
-    let y : (256 * c.args.n + c.args.y) % 256 ≡ c.args.y = omega (arith, c.requires) in
-    let n : (256 * c.args.n + c.args.y) / 256 ≡ c.args.n = omega (arith, c.requires) in
-    eqb→eq (get_or entries k 0) (times 15 0 4 (k % 256) (k / 256)) (at right entries tt k h)
-    ∙ ap₂ (λ u v. times 15 0 4 u v) y n
-''')
-for up in (16, 24):
-    unit = above[up][1]
-    source += f'''
-const ABOVE_{up}: [u16; 256] = [
-''' + wrapped(['0x%04X' % e for e in above[up]], ', ', '    ') + f''',
-];
-
-// What x stands for {up} places up.
-pub fn above_{up}(x: u8) -> u16
-    ensures {{ result ≡ times 15 0x1100B 8 0x{unit:04X} x }}
-{{
-    ABOVE_{up}[x as usize]
-}}
-'''
-    write(f'proofs/tables/above_{up}/Answers.antt', HEAD.replace('WORDS', ABOVE_WORDS) + f'''use Rattle.field.proofs.tables.above_{up}.Goals as goal
-
-''' + list_of(above[up]) + f'''
-right : ℕ → ℕ → Bool
-right k e = eqb e (times 15 0x1100B 8 0x{unit:04X} k)
-
-pub returns : goal.returns
-unfolding entries right times double
-returns c =
-    let h : c.args.x < 256 = omega (arith, c.ranges.x) in
-    eqb→eq (get_or entries c.args.x 0) (times 15 0x1100B 8 0x{unit:04X} c.args.x) (at right entries tt c.args.x h)
-''')
-write('src/tables.rt', source)
-
-
 def product(a, b):
     return reduced(unreduced(a, b))
 
@@ -130,67 +43,71 @@ def inverse(a):
     return r
 
 
+def row(entries, digits):
+    return '[' + ', '.join('0x%0*X' % (digits, e) for e in entries) + ']'
+
+
+def table(rows, digits):
+    return '[' + ', '.join(row(r, digits) for r in rows) + ']'
+
+
+def write(name, text):
+    with open(os.path.join(ROOT, 'src', name), 'w') as f:
+        f.write(text)
+
+
+nibbles = [[unreduced(y, n) for y in range(256)] for n in range(16)]
+above = [[reduced(x << up) for x in range(256)] for up in (16, 24)]
+write('tables.rt', f'''// Tables for products of two-byte words. Written by tools/product_tables.py.
+ghost use Rattle.std.specs.Prelude.{{◌≡◌, ◌<◌}};
+ghost use Rattle.field.specs.Polynomials.{{times, one_above}};
+
+// Row n has the bytes times n.
+const NIBBLES: [[u16; 256]; 16] = {table(nibbles, 3)};
+
+// A byte times four bits, with nothing reduced.
+pub(crate) fn nibble_times_byte(n: u16, y: u8) -> u16
+    requires {{ n < 16 }}
+    ensures {{ result ≡ times 15 0 4 y n }}
+{{
+    NIBBLES[n as usize][y as usize]
+}}
+
+// Row k has what the bytes stand for 16 + 8 * k places up.
+const ABOVE: [[u16; 256]; 2] = {table(above, 4)};
+
+// What a byte stands for 16 + 8 * k places up.
+pub(crate) fn above(k: usize, x: u8) -> u16
+    requires {{ k < 2 }}
+    ensures {{ result ≡ times 15 0x1100B 8 (one_above k) x }}
+{{
+    ABOVE[k][x as usize]
+}}
+''')
+
 points = [reduced(1 << i) for i in range(20)]
-gaps = [inverse(points[k // 20] ^ points[k % 20]) for k in range(400)]
-write('src/points.rt', '''// The points of the twenty positions, and the inverses of their differences. Written by tools/product_tables.py.
-ghost use Rattle.std.specs.Prelude.{◌≡◌, ◌<◌, bit_xor};
-ghost use Rattle.field.specs.Polynomials.{word_product, word_inverse};
-ghost use Rattle.field.specs.Sums.{power};
+gaps = [[inverse(p ^ q) for q in points] for p in points]
+write('points.rt', f'''// The points of the twenty positions, and the inverses of their differences. Written by tools/product_tables.py.
+ghost use Rattle.std.specs.Prelude.{{◌≡◌, ◌<◌, bit_xor}};
+ghost use Rattle.field.specs.Polynomials.{{word_product, word_inverse}};
+ghost use Rattle.field.specs.Sums.{{power}};
 
-const POINTS: [u16; 20] = [
-''' + wrapped(['0x%04X' % e for e in points], ', ', '    ') + ''',
-];
+const POINTS: [u16; 20] = {row(points, 4)};
 
-pub fn near_point(i: usize) -> u16
-    requires { i < 20 }
-    ensures { result ≡ power word_product 2 i }
-{
+pub(crate) fn near_point(i: usize) -> u16
+    requires {{ i < 20 }}
+    ensures {{ result ≡ power word_product 2 i }}
+{{
     POINTS[i]
-}
+}}
 
-const GAPS: [u16; 400] = [
-''' + wrapped(['0x%04X' % e for e in gaps], ', ', '    ') + ''',
-];
+// Row i has the inverses of the differences of point i and the others, and 0 at its own place.
+const GAPS: [[u16; 20]; 20] = {table(gaps, 4)};
 
-pub fn near_gap(i: usize, k: usize) -> u16
-    requires { (i < 20) × (k < 20) }
-    ensures { result ≡ word_inverse (bit_xor (power word_product 2 i) (power word_product 2 k)) }
-{
-    GAPS[20 * i + k]
-}
-''')
-write('proofs/points/near_point/Answers.antt', '''-- The entries of a table, by one computed test. Written by tools/product_tables.py. Assumes nothing.
-use Rattle.std.proofs.Common.{ℕ, List, [], ◌∷◌, get_or}
-use Rattle.field.specs.Polynomials.{double, times, product, word_product}
-use Rattle.field.specs.Sums.{power}
-use Rattle.field.specs.Computed.{same_at}
-use Rattle.field.proofs.points.near_point.Goals as goal
-
-''' + list_of(points) + '''
-pub returns : goal.returns
-unfolding entries power word_product product times double
-returns c = same_at (λ i. get_or entries i 0) (power word_product 2) 20 tt c.args.i c.requires
-''')
-write('proofs/points/near_gap/Answers.antt', '''-- The entries of a table, by one computed test. Written by tools/product_tables.py. Assumes nothing.
-use Rattle.std.proofs.Common.{◌≡◌, ℕ, ◌+◌, ◌*◌, ◌/◌, ◌%◌, ◌<◌, Bool, List, [], ◌∷◌, get_or, ◌∙◌, ap₂, arith}
-use lib.Bits.{bit_xor}
-use Rattle.field.specs.Polynomials.{double, times, product, word_product, word_inverse}
-use Rattle.field.specs.Sums.{power}
-use Rattle.field.specs.Computed.{at}
-use Rattle.field.proofs.Gaps.{is_gap, gap-inverse}
-use Rattle.field.proofs.points.near_gap.Goals as goal
-
-''' + list_of(gaps) + '''
-right : ℕ → ℕ → Bool
-right k e = is_gap (k / 20) (k % 20) e
-
-pub returns : goal.returns
-unfolding entries right is_gap power word_product product times double
-returns c =
-    let k : ℕ = 20 * c.args.i + c.args.k in
-    let h : 20 * c.args.i + c.args.k < 400 = omega (arith, c.requires) in
-    let i : (20 * c.args.i + c.args.k) / 20 ≡ c.args.i = omega (arith, c.requires) in
-    let j : (20 * c.args.i + c.args.k) % 20 ≡ c.args.k = omega (arith, c.requires) in
-    gap-inverse (k / 20) (k % 20) (get_or entries k 0) (at right entries tt k h)
-    ∙ ap₂ (λ u v. word_inverse (bit_xor (power word_product 2 u) (power word_product 2 v))) i j
+pub(crate) fn near_gap(i: usize, k: usize) -> u16
+    requires {{ (i < 20) × (k < 20) }}
+    ensures {{ result ≡ word_inverse (bit_xor (power word_product 2 i) (power word_product 2 k)) }}
+{{
+    GAPS[i][k]
+}}
 ''')

@@ -1,9 +1,6 @@
 -- Four products in one number: sums go by parts, and a word goes by its two bytes. Assumes nothing.
-use mathlib.Core.Path.{◌≡◌, sym, ap, ap₂, ◌∙◌}
-use Prim.Native.Nat.{ℕ, ◌+◌, ◌*◌, ◌/◌, ◌%◌, ◌^◌, ◌<◌}
-use native.Mathlib.Omega.{arith}
-use lib.Dec.{lit<}
-use lib.Bits.{bit_xor, xor_block, xor_comm, xor_lt, xor_shifted}
+use Rattle.std.proofs.Common.{◌≡◌, sym, ap, ap₂, ◌∙◌, ℕ, ◌+◌, ◌*◌, ◌/◌, ◌%◌, ◌^◌, ◌<◌, arith, lit<}
+use Rattle.std.specs.Int.Bits.{bit_xor, xor_block, xor_comm, xor_lt, xor_shifted}
 use Rattle.field.specs.Polynomials.{word_product}
 use Rattle.field.specs.TwoFields.{word_field_laws}
 use Rattle.check_groups.specs.Groups.{four}

@@ -1,10 +1,6 @@
 -- The lanes of the summed products are the next check words. Assumes nothing.
-use mathlib.Core.Path.{◌≡◌, sym, ap, subst}
-use Prim.Native.Nat.{ℕ, zero, suc, ◌%◌, ◌^◌, ◌<◌}
-use native.Mathlib.Nat.{mod-lt}
-use native.Mathlib.Omega.{arith}
-use lib.Pow.{pow_pos}
-use lib.Bits.{bit_xor, xor_zero_l}
+use Rattle.std.proofs.Common.{◌≡◌, sym, ap, subst, ℕ, zero, suc, ◌%◌, ◌^◌, ◌<◌, arith, mod-lt, pow_pos}
+use Rattle.std.specs.Int.Bits.{bit_xor, xor_zero_l}
 use Rattle.field.specs.Polynomials.{word_product}
 use Rattle.field.specs.Sums.{total}
 use Rattle.field.specs.Computed.{same_at}

@@ -2,9 +2,6 @@
 #![tactic(auto)]
 
 mod group;
-mod word_0;
-mod word_1;
-mod word_2;
-mod word_3;
+mod tables;
 
 pub use group::next;

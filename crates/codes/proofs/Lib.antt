@@ -1,5 +1,7 @@
 pub mod Blanking
-pub mod Parts
+pub mod Folding
+pub mod Made
+pub mod Groups
 pub mod Taking
 pub mod Solving
 pub mod Patching

@@ -1,6 +1,5 @@
 -- What rebuild answers, from a filled column and its check words. Assumes nothing.
-use Rattle.std.proofs.Common.{◌≡◌, ℕ, ◌+◌, ◌-◌, ◌<◌, ◌≤◌, Bool, false, cond, T, List, [], ◌∷◌, ◌++◌, length, get_or, take, drop, replicate, Ok, Err, sym, ap, ◌∙◌, subst, ap₂, arith}
-use Rattle.std.proofs.Math.Option.{Option, some}
+use Rattle.std.proofs.Common.{◌≡◌, ℕ, ◌+◌, ◌-◌, ◌<◌, ◌≤◌, Bool, false, cond, T, List, [], ◌∷◌, ◌++◌, length, get_or, take, drop, replicate, Ok, Err, sym, ap, ◌∙◌, subst, ap₂, arith, Option, Some}
 use Rattle.std.proofs.lemmas.List.{ext_get_or, get_or-take, length-take-le, take-append-drop, append_cancel_right, drop-take, drop-drop}
 use Rattle.std.proofs.lemmas.Bool.{lt-ltb, le-ltb}
 use Rattle.codes.specs.Code.{Code, Right}
@@ -11,7 +10,7 @@ use Rattle.codes.specs.Agreeing.{same_length, still-words, agrees_from, back_sam
 
 -- ---- the search
 
-rebuilds : (code : Code) (c : List (Option ℕ)) (ws : List ℕ) → IsTheColumn code c ws → rebuild code c ≡ some ws
+rebuilds : (code : Code) (c : List (Option ℕ)) (ws : List ℕ) → IsTheColumn code c ws → rebuild code c ≡ Some ws
 unfolding rebuild
 rebuilds code c ws h =
     find_only (is_right code) (fillings c) ws (agrees_among c ws h.agrees)

@@ -1,7 +1,7 @@
 -- One missing word from the sums of a column, over any field. Assumes nothing.
 use Rattle.std.proofs.Common.{◌≡◌, ℕ, ◌+◌, ◌^◌, ◌<◌, ◌≤◌, Bool, true, false, ◌⊎◌, List, get_or, sym, ap, ◌∙◌, add-one, arith, lit≤}
-use native.Mathlib.Nat.{pow-le-pow_right}
-use lib.Bits.{bit_xor, xor_lt, xor_self}
+use Rattle.std.proofs.Math.Nat.{pow-le-pow_right}
+use Rattle.std.specs.Int.Bits.{bit_xor, xor_lt, xor_self}
 use Rattle.field.specs.Laws.{FieldLaws, PowersDiffer}
 use Rattle.field.specs.Sums.{power, weighted}
 use Rattle.field.proofs.Totals.{xor-equal}

@@ -1,8 +1,8 @@
 -- Missing positions taken out of the sums one by one, until one word is left. Assumes nothing.
 use Rattle.std.proofs.Common.{◌≡◌, ℕ, zero, suc, ◌+◌, ◌*◌, ◌^◌, ◌<◌, ◌≤◌, Bool, true, false, cond, T, eqb, ◌⊎◌, List, get_or, sym, refl, ap, ◌∙◌, subst, ap₂, inl, inr, le_of_suc-le-suc, add-zero, eq-or-lt_of_le, add-one, arith, eqb→eq, pow_pos}
-use native.Mathlib.Decide.{ℕ_discrete}
-use lib.Dec.{eqb_refl}
-use lib.Bits.{bit_xor, xor_self, xor_lt}
+use Rattle.std.proofs.Math.Decide.{ℕ_discrete}
+use Rattle.std.proofs.Math.Dec.{eqb_refl}
+use Rattle.std.specs.Int.Bits.{bit_xor, xor_self, xor_lt}
 use Rattle.field.specs.Laws.{FieldLaws}
 use Rattle.field.specs.Sums.{total, weighted, power}
 use Rattle.codes.specs.Filling.{missing_count}

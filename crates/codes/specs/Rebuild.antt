@@ -9,14 +9,13 @@
 --   answered code c              the twenty words and the flag that rebuild answers
 --   rebuilt code column marks    the same, of a column and its marks
 --   Settles code column marks answer  the law of an answer: right, agreeing and the only one; or refused for cause
-use Rattle.std.specs.Prelude.{◌≡◌, ℕ, zero, suc, ◌+◌, ◌-◌, ◌<◌, ◌≤◌, Bool, true, false, cond, ◌&&◌, List, [], ◌∷◌, ◌++◌, map, take, drop, replicate, Ok, Err, ◌==◌, nat_lt, slice_index, slice_index_or}
-use Rattle.std.proofs.Math.Option.{Option, some, none}
-use Rattle.std.specs.List.{range_with_len}
+use Rattle.std.specs.Prelude.{◌≡◌, ℕ, zero, suc, ◌+◌, ◌-◌, ◌<◌, ◌≤◌, Bool, true, false, cond, ◌&&◌, List, [], ◌∷◌, ◌++◌, map, take, drop, replicate, Ok, Err, ◌==◌, nat_lt, slice_index, slice_index_or, Option, Some, None}
+use Rattle.std.specs.List.{find, range_with_len}
 use Rattle.refusal.specs.Tells.{Answer}
 use Rattle.codes.specs.Code.{Code, Right}
 
 unfoldable pub present : ℕ → List ℕ → List Bool → List (Option ℕ)
-present n column marks = map (λ i. cond (slice_index_or marks i false) none (some (slice_index column i))) (range_with_len 0 n)
+present n column marks = map (λ i. cond (slice_index_or marks i false) None (Some (slice_index column i))) (range_with_len 0 n)
 
 -- what a code reads of a column: its first 16 + r words
 abbrev pub seen : Code → List ℕ → List Bool → List (Option ℕ)
@@ -24,15 +23,15 @@ seen code column marks = present (16 + code.r) column marks
 
 abbrev pub missing : List (Option ℕ) → ℕ
 missing [] = 0
-missing (none ∷ c) = suc (missing c)
-missing (some w ∷ c) = missing c
+missing (None ∷ c) = suc (missing c)
+missing (Some w ∷ c) = missing c
 
 abbrev pub Agrees : List (Option ℕ) → List ℕ → Type 0
 Agrees [] [] = Unit {0}
 Agrees [] (w ∷ ws) = ⊥
 Agrees (c ∷ cs) [] = ⊥
-Agrees (none ∷ cs) (w ∷ ws) = (w < 65536) × Agrees cs ws
-Agrees (some u ∷ cs) (w ∷ ws) = (u ≡ w) × Agrees cs ws
+Agrees (None ∷ cs) (w ∷ ws) = (w < 65536) × Agrees cs ws
+Agrees (Some u ∷ cs) (w ∷ ws) = (u ≡ w) × Agrees cs ws
 
 -- the numbers below n
 unfoldable pub below : ℕ → List ℕ
@@ -46,15 +45,8 @@ each_then (u ∷ us) wss = map (λ ws. u ∷ ws) wss ++ each_then us wss
 
 unfoldable pub fillings : List (Option ℕ) → List (List ℕ)
 fillings [] = [] ∷ []
-fillings (some u ∷ c) = each_then (u ∷ []) (fillings c)
-fillings (none ∷ c) = each_then (below 65536) (fillings c)
-
--- the first column that passes a test
-unfoldable pub find : (List ℕ → Bool) → List (List ℕ) → Option (List ℕ)
-find f [] = none
-find f (w ∷ ws) =
-    let later : Option (List ℕ) = find f ws in
-    cond (f w) (some w) later
+fillings (Some u ∷ c) = each_then (u ∷ []) (fillings c)
+fillings (None ∷ c) = each_then (below 65536) (fillings c)
 
 abbrev pub same_list : List ℕ → List ℕ → Bool
 same_list [] [] = true
@@ -71,8 +63,8 @@ rebuild code c = find (is_right code) (fillings c)
 
 -- the right column and zeros up to twenty words, or twenty zeros and refusal 13
 abbrev pub offered : Code → Option (List ℕ) → List ℕ × Answer (Unit {0})
-offered code (some ws) = (ws ++ replicate (4 - code.r) 0, Ok tt)
-offered code none = (replicate 20 0, Err (13, 0 ∷ 0 ∷ 0 ∷ []))
+offered code (Some ws) = (ws ++ replicate (4 - code.r) 0, Ok tt)
+offered code None = (replicate 20 0, Err (13, 0 ∷ 0 ∷ 0 ∷ []))
 
 -- more than r missing is refused with 15 and the count, before anything is rebuilt
 abbrev pub answered : Code → List (Option ℕ) → List ℕ × Answer (Unit {0})

@@ -1,10 +1,10 @@
 -- Columns found by search: one agrees with the words present exactly when it is one of the fillings. Assumes nothing.
-use Rattle.std.specs.Prelude.{◌≡◌, ℕ, zero, suc, ◌<◌, ◌≤◌, Bool, true, false, cond, ◌&&◌, T, ◌⊎◌, List, [], ◌∷◌, ◌++◌, map, ◌==◌, refl}
+use Rattle.std.specs.Prelude.{◌≡◌, ℕ, zero, suc, ◌<◌, ◌≤◌, Bool, true, false, cond, ◌&&◌, T, ◌⊎◌, List, [], ◌∷◌, ◌++◌, map, ◌==◌, refl, Option, Some, None}
 use Rattle.std.proofs.Common.{sym, ap, ap₂, ◌∙◌, subst, inl, inr, zero-le, suc-le-suc, le_of_suc-le-suc, not-suc-le-zero, le_refl, le_trans, eqb→eq}
 use Rattle.std.proofs.Math.Nat.{le-suc}
-use Rattle.std.proofs.Math.Option.{Option, some, none}
 use Rattle.std.proofs.Math.Dec.{eqb_refl}
-use Rattle.codes.specs.Rebuild.{Agrees, fillings, below, each_then, find, same_list}
+use Rattle.std.specs.List.{find}
+use Rattle.codes.specs.Rebuild.{Agrees, fillings, below, each_then, same_list}
 
 pub is_true : (b : Bool) → T b → b ≡ true
 is_true true t = refl
@@ -110,11 +110,11 @@ pub agrees_among : (c : List (Option ℕ)) (w : List ℕ) → Agrees c w → Amo
 unfolding fillings
 agrees_among [] [] h = first
 agrees_among [] (w ∷ ws) h = absurd h
-agrees_among (none ∷ c) [] h = absurd h
-agrees_among (some u ∷ c) [] h = absurd h
-agrees_among (none ∷ c) (w ∷ ws) h = among-each (below 65536) (fillings c) (among-words w 65536 h.0)
+agrees_among (None ∷ c) [] h = absurd h
+agrees_among (Some u ∷ c) [] h = absurd h
+agrees_among (None ∷ c) (w ∷ ws) h = among-each (below 65536) (fillings c) (among-words w 65536 h.0)
     (agrees_among c ws h.1)
-agrees_among (some u ∷ c) (w ∷ ws) h =
+agrees_among (Some u ∷ c) (w ∷ ws) h =
     subst (λ (v : ℕ). Among (v ∷ ws) (each_then (u ∷ []) (fillings c))) h.0
     (among-each (u ∷ []) (fillings c) first (agrees_among c ws h.1))
 
@@ -126,14 +126,14 @@ pub among-agrees : (c : List (Option ℕ)) (w : List ℕ) → Among w (fillings 
 unfolding fillings
 among-agrees [] w first = tt
 among-agrees [] w (later h) = elim h [ ]
-among-agrees (none ∷ c) w h =
+among-agrees (None ∷ c) w h =
     let t : (u : ℕ) × (ws : List ℕ) × Among u (below 65536) × Among ws (fillings c) × (w ≡ u ∷ ws) = each_among
     (below 65536) (fillings c) h in
-    subst (λ (x : List ℕ). Agrees (none ∷ c) x) (sym t.4) (words_among 65536 t.2, among-agrees c t.1 t.3)
-among-agrees (some v ∷ c) w h =
+    subst (λ (x : List ℕ). Agrees (None ∷ c) x) (sym t.4) (words_among 65536 t.2, among-agrees c t.1 t.3)
+among-agrees (Some v ∷ c) w h =
     let t : (u : ℕ) × (ws : List ℕ) × Among u (v ∷ []) × Among ws (fillings c) × (w ≡ u ∷ ws) = each_among (v ∷ [])
     (fillings c) h in
-    subst (λ (x : List ℕ). Agrees (some v ∷ c) x) (sym t.4) (only_one t.2, among-agrees c t.1 t.3)
+    subst (λ (x : List ℕ). Agrees (Some v ∷ c) x) (sym t.4) (only_one t.2, among-agrees c t.1 t.3)
 
 not_first : (f : List ℕ → Bool) {w x : List ℕ} {xs : List (List ℕ)} → Among w (x ∷ xs) → T (f w) → f x ≡ false
     → Among w xs
@@ -141,21 +141,19 @@ not_first f first t e = absurd (subst T e t)
 not_first f (later k) t e = k
 
 pub find_only : (f : List ℕ → Bool) (wss : List (List ℕ)) (w : List ℕ) → Among w wss → T (f w)
-    → ((u : List ℕ) → Among u wss → T (f u) → u ≡ w) → find f wss ≡ some w
-unfolding find
+    → ((u : List ℕ) → Among u wss → T (f u) → u ≡ w) → find f wss ≡ Some w
 find_only f [] w h t one = elim h [ ]
 find_only f (x ∷ xs) w h t one = go (f x) refl (λ k. find_only f xs w k t (λ u j. one u (later j)))
   where
-    go : (b : Bool) → f x ≡ b → (Among w xs → find f xs ≡ some w) → cond (f x) (some x) (find f xs) ≡ some w
-    go true e ih = ap (λ (b : Bool). cond b (some x) (find f xs)) e ∙ ap some (one x first (subst T (sym e) tt))
-    go false e ih = ap (λ (b : Bool). cond b (some x) (find f xs)) e ∙ ih (not_first f h t e)
+    go : (b : Bool) → f x ≡ b → (Among w xs → find f xs ≡ Some w) → cond (f x) (Some x) (find f xs) ≡ Some w
+    go true e ih = ap (λ (b : Bool). cond b (Some x) (find f xs)) e ∙ ap Some (one x first (subst T (sym e) tt))
+    go false e ih = ap (λ (b : Bool). cond b (Some x) (find f xs)) e ∙ ih (not_first f h t e)
 
 pub find_none : (f : List ℕ → Bool) (wss : List (List ℕ)) → ((w : List ℕ) → Among w wss → T (f w) → ⊥)
-    → find f wss ≡ none
-unfolding find
+    → find f wss ≡ None
 find_none f [] h = refl
 find_none f (x ∷ xs) h = go (f x) (h x first) (find_none f xs (λ w a t. h w (later a) t))
   where
-    go : (b : Bool) → (T b → ⊥) → find f xs ≡ none → cond b (some x) (find f xs) ≡ none
+    go : (b : Bool) → (T b → ⊥) → find f xs ≡ None → cond b (Some x) (find f xs) ≡ None
     go true k e = absurd (k tt)
     go false k e = e

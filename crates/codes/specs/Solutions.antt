@@ -1,8 +1,7 @@
 -- Codes whose check words make sums zero are lawful, and their right columns are those of zero sums. Assumes nothing.
-use Rattle.std.specs.Prelude.{◌≡◌, ℕ, zero, suc, ◌+◌, ◌-◌, ◌<◌, ◌≤◌, Bool, cond, ◌&&◌, T, List, [], ◌∷◌, ◌++◌, map, length, take, drop, replicate, ◌==◌, slice_index, refl}
+use Rattle.std.specs.Prelude.{◌≡◌, ℕ, zero, suc, ◌+◌, ◌-◌, ◌<◌, ◌≤◌, Bool, cond, ◌&&◌, T, List, [], ◌∷◌, ◌++◌, map, length, take, drop, replicate, ◌==◌, slice_index, refl, Option, Some, None, unwrap_or}
 use Rattle.std.proofs.Common.{sym, ◌∙◌, ap, ap₂, subst, zero-le, eq-or-lt_of_le, le_of_suc-le-suc, le_trans, le_refl, zero-add, inl, inr, eqb→eq, lit<, length-append, not-suc-le-zero}
 use Rattle.std.proofs.Math.Nat.{suc-ne-zero, suc_inj, le-suc, le-add_right, add-le-add, add-sub_cancel_left}
-use Rattle.std.proofs.Math.Option.{Option, some, none}
 use Rattle.std.proofs.Math.Dec.{eqb_refl}
 use Rattle.std.proofs.lemmas.List.{take-append-drop, length-take-le, length-drop}
 use Rattle.field.specs.Polynomials.{word_product, word_inverse}
@@ -10,7 +9,7 @@ use Rattle.field.specs.Sums.{weighted}
 use Rattle.field.specs.TwoFields.{word_field_laws, word_differ}
 use Rattle.codes.specs.Code.{AllWords, Code, Right, Lawful, differences}
 use Rattle.codes.specs.Rebuild.{Agrees, missing, fillings}
-use Rattle.codes.specs.TwoCodes.{sum, zero_sums, SumsAreZero, by_sums, or_nothing, SumsMakeRight}
+use Rattle.codes.specs.TwoCodes.{sum, zero_sums, SumsAreZero, by_sums, SumsMakeRight}
 use Rattle.codes.specs.Filling.{Vanishes}
 use Rattle.codes.specs.Searching.{is_true, and_left, and_right, agrees_among, among-agrees, find_only}
 use Rattle.codes.specs.Agreeing.{at_most_one, differ-missing, same_length, still-words, words_small}
@@ -56,14 +55,14 @@ equal r us ws r4 u w h =
 -- ---- the words that by_sums finds
 
 gaps_agree : (ws cs : List ℕ) (r : ℕ) → length cs ≡ r → AllWords cs
-    → Agrees (map some ws ++ replicate r none) (ws ++ cs)
+    → Agrees (map Some ws ++ replicate r None) (ws ++ cs)
 gaps_agree (w ∷ ws) cs r l a = (refl, gaps_agree ws cs r l a)
 gaps_agree [] [] zero l a = tt
 gaps_agree [] [] (suc r) l a = absurd (suc-ne-zero r (sym l))
 gaps_agree [] (c ∷ cs) zero l a = absurd (suc-ne-zero (length cs) l)
 gaps_agree [] (c ∷ cs) (suc r) l a = (a.0, gaps_agree [] cs r (suc_inj l) a.1)
 
-gaps-missing : (ws : List ℕ) (r : ℕ) → missing (map some ws ++ replicate r none) ≡ r
+gaps-missing : (ws : List ℕ) (r : ℕ) → missing (map Some ws ++ replicate r None) ≡ r
 gaps-missing (w ∷ ws) r = gaps-missing ws r
 gaps-missing [] zero = refl
 gaps-missing [] (suc r) = ap suc (gaps-missing [] r)
@@ -81,7 +80,7 @@ pub solution : (r : ℕ) (ws cs : List ℕ) → r ≤ 4 → length ws ≡ 16 →
     → by_sums r ws ≡ cs
 unfolding by_sums
 solution r ws cs r4 lw aw lc ac z =
-    ap (λ o. drop (length ws) (or_nothing o))
+    ap (λ o. drop (length ws) (unwrap_or o []))
     (find_only (zero_sums r) (fillings gaps) (ws ++ cs) (agrees_among gaps (ws ++ cs) fits) (zero_test r (ws ++ cs) z)
     (λ u k t.
     let a : Agrees gaps u = among-agrees gaps u k in
@@ -93,7 +92,7 @@ solution r ws cs r4 lw aw lc ac z =
     ∙ drop_front ws cs
   where
     gaps : List (Option ℕ)
-    gaps = map some ws ++ replicate r none
+    gaps = map Some ws ++ replicate r None
 
     fits : Agrees gaps (ws ++ cs)
     fits = gaps_agree ws cs r lc ac

@@ -6,12 +6,12 @@
 --   by_sums r ws       the r words that make the sums for j below r zero, if they are put behind the words ws
 --   parity, four_check the two codes
 --   SumsMakeRight      the right columns of a code are those whose sums are 0
-use Rattle.std.specs.Prelude.{◌≡◌, ℕ, zero, suc, ◌+◌, ◌<◌, Bool, true, ◌&&◌, List, [], ◌∷◌, ◌++◌, map, length, drop, replicate, ◌==◌, slice_index}
-use Rattle.std.proofs.Math.Option.{Option, some, none}
+use Rattle.std.specs.Prelude.{◌≡◌, ℕ, zero, suc, ◌+◌, ◌<◌, Bool, true, ◌&&◌, List, [], ◌∷◌, ◌++◌, map, length, drop, replicate, ◌==◌, slice_index, unwrap_or, Some, None}
 use Rattle.field.specs.Polynomials.{word_product}
 use Rattle.field.specs.Sums.{total, weighted}
 use Rattle.codes.specs.Code.{Code, AllWords, Right}
-use Rattle.codes.specs.Rebuild.{fillings, find}
+use Rattle.std.specs.List.{find}
+use Rattle.codes.specs.Rebuild.{fillings}
 
 unfoldable pub sum : ℕ → List ℕ → ℕ
 sum j ws = weighted word_product 2 (length ws) j (λ i. slice_index ws i)
@@ -23,13 +23,9 @@ zero_sums (suc j) ws = sum j ws == 0 && zero_sums j ws
 abbrev pub SumsAreZero : ℕ → List ℕ → Type 0
 SumsAreZero r ws = (j : ℕ) → j < r → sum j ws ≡ 0
 
-abbrev pub or_nothing : Option (List ℕ) → List ℕ
-or_nothing (some ws) = ws
-or_nothing none = []
-
 -- found among all columns that have the words ws and then any r words
 unfoldable pub by_sums : ℕ → List ℕ → List ℕ
-by_sums r ws = drop (length ws) (or_nothing (find (zero_sums r) (fillings (map some ws ++ replicate r none))))
+by_sums r ws = drop (length ws) (unwrap_or (find (zero_sums r) (fillings (map Some ws ++ replicate r None))) [])
 
 -- the exclusive-or of the sixteen words
 unfoldable pub parity_word : List ℕ → ℕ

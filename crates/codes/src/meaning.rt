@@ -5,7 +5,7 @@ ghost use Rattle.codes.specs.Code.{Code, Lawful, check_four};
 ghost use Rattle.codes.specs.Rebuild.{Settles, rebuilt};
 ghost use Rattle.codes.specs.Filling.{Filled};
 
-use crate::column::{count_missing, front, same_tail};
+use crate::column::{count_missing, split};
 use refusal::Refusal;
 
 pub trait CheckCode {
@@ -32,24 +32,21 @@ pub trait CheckCode {
         ensures settles { Settles (code self.now) column marks (result.0, told result.1) }
     {
         let r = self.r();
-        let count = count_missing(marks, 16 + r);
+        let count = count_missing(&marks, 16 + r);
         if count > r {
             return ([0; 20], Err(Refusal::TooManyMissing(count)));
         }
         let filled = self.fill(column, marks);
-        let made = self.check_words(front(filled));
-        if same_tail(filled, made) {
-            (filled, Ok(()))
-        } else {
-            (
-                [0; 20],
-                Err(Refusal::NoColumn {
-                    envelope: 0,
-                    entity: 0,
-                    word: 0,
-                }),
-            )
+        let (front, tail) = split(&filled);
+        if self.check_words(front) == tail {
+            return (filled, Ok(()));
         }
+        let nowhere = Refusal::NoColumn {
+            envelope: 0,
+            entity: 0,
+            word: 0,
+        };
+        ([0; 20], Err(nowhere))
     }
 
     ghost lawful: { (k : Self) → Lawful (code k) };

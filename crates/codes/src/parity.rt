@@ -1,5 +1,5 @@
 // The parity code: one check word, the exclusive-or of the sixteen.
-ghost use Rattle.std.specs.Prelude.{◌≡◌, slice_index};
+ghost use Rattle.std.specs.Prelude.{◌≡◌, length, slice_index};
 ghost use Rattle.field.specs.Sums.{total};
 ghost use Rattle.codes.specs.TwoCodes.{parity};
 ghost use Rattle.codes.specs.Solutions;
@@ -24,33 +24,18 @@ impl CheckCode for Parity {
 
     #[tactic(auto, unfolding(crate::specs::TwoCodes::parity_word))]
     fn check_words(&self, words: [u16; 16]) -> [u16; 4] {
-        [xor_front(words), 0, 0, 0]
+        [xor(&words), 0, 0, 0]
     }
 
     fn fill(&self, column: [u16; 20], marks: [bool; 20]) -> [u16; 20] {
-        let blank = blanked(column, marks, 17);
-        filled_in(&TwoByte, 1, blank, marks, [xor_column(blank), 0, 0, 0])
+        let blank = blanked(&column, &marks, 17);
+        filled_in(&TwoByte, 1, &blank, &marks, &[xor(&blank[..17]), 0, 0, 0])
     }
 }
 
-// The exclusive-or of sixteen words.
-fn xor_front(words: [u16; 16]) -> u16
-    ensures { result ≡ total (λ i. slice_index words i) 16 }
+// The exclusive-or of the words.
+fn xor(words: &[u16]) -> u16
+    ensures { result ≡ total (λ i. slice_index words.now i) (length words.now) }
 {
-    let mut all = 0;
-    for i in 0..16 {
-        all ^= words[i];
-    }
-    all
-}
-
-// The exclusive-or of the seventeen words of a column.
-fn xor_column(column: [u16; 20]) -> u16
-    ensures { result ≡ total (λ i. slice_index column i) 17 }
-{
-    let mut all = 0;
-    for i in 0..17 {
-        all ^= column[i];
-    }
-    all
+    words.iter().fold(0, |all, word| all ^ word)
 }

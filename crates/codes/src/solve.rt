@@ -3,28 +3,30 @@ ghost use Rattle.std.specs.Prelude.{◌≡◌, ℕ, ◌+◌, ◌^◌, ◌<◌, �
 ghost use Rattle.codes.specs.Filling.{FillsIn, MissingWord, SumsOf, taken_out};
 
 use field::Field;
+use std::array;
 
 // The blank column with each missing word as its sums ask for it; `totals` are the sums of the blank column.
-pub fn filled_in<F: Field>(
+// The field, r, totals and marks are parameters: as a struct's fields they would make each clause here longer.
+pub(crate) fn filled_in<F: Field>(
     field: &F,
     r: usize,
-    blank: [u16; 20],
-    marks: [bool; 20],
-    totals: [u16; 4],
+    blank: &[u16; 20],
+    marks: &[bool; 20],
+    totals: &[u16; 4],
 ) -> [u16; 20]
     requires few { r ≤ 4 }
-    requires fits { (k : ℕ) → k < 16 + r → slice_index blank k < 2 ^ (F.Field.means field.now).wide }
-    requires zeros { (k : ℕ) → k < 16 + r → slice_index_or marks k false ≡ true → slice_index blank k ≡ 0 }
-    requires sums { SumsOf (F.Field.means field.now) r blank totals }
-    ensures { FillsIn (F.Field.means field.now) r blank marks result }
+    requires fits { (k : ℕ) → k < 16 + r → slice_index blank.now k < 2 ^ (F.Field.means field.now).wide }
+    requires zeros { (k : ℕ) → k < 16 + r → slice_index_or marks.now k false ≡ true → slice_index blank.now k ≡ 0 }
+    requires sums { SumsOf (F.Field.means field.now) r blank.now totals.now }
+    ensures { FillsIn (F.Field.means field.now) r blank.now marks.now result }
 {
-    let mut out = blank;
-    for k in 0..16 + r {
-        if marks[k] {
-            out[k] = missing_word(field, r, totals, marks, k);
+    array::from_fn(|k| {
+        if k < 16 + r && marks[k] {
+            missing_word(field, r, totals, marks, k)
+        } else {
+            blank[k]
         }
-    }
-    out
+    })
 }
 
 // The word at one missing position: the other missing positions are taken out of the sums one by one, and what is left
@@ -32,23 +34,21 @@ pub fn filled_in<F: Field>(
 fn missing_word<F: Field>(
     field: &F,
     r: usize,
-    totals: [u16; 4],
-    marks: [bool; 20],
+    totals: &[u16; 4],
+    marks: &[bool; 20],
     at: usize,
 ) -> u16
     requires few { r ≤ 4 }
     requires within { at < 16 + r }
-    requires lost { slice_index_or marks at false ≡ true }
-    ensures { MissingWord (F.Field.means field.now) r totals marks at result }
+    requires lost { slice_index_or marks.now at false ≡ true }
+    ensures { MissingWord (F.Field.means field.now) r totals.now marks.now at result }
 {
-    let mut sums = totals;
-    let mut scale: u16 = 1;
-    for k in 0..16 + r {
-        if marks[k] {
-            if k != at {
-                sums = without(field, sums, field.point(k));
-                scale = field.product(scale, field.gap(at, k));
-            }
+    let mut sums = *totals;
+    let mut scale = 1;
+    for (k, missing) in marks[..16 + r].iter().enumerate() {
+        if *missing && k != at {
+            sums = without(field, sums, field.point(k));
+            scale = field.product(scale, field.gap(at, k));
         }
     }
     field.product(scale, sums[0])
@@ -58,10 +58,11 @@ fn missing_word<F: Field>(
 fn without<F: Field>(field: &F, sums: [u16; 4], y: u16) -> [u16; 4]
     ensures { (j : ℕ) → j < 3 → slice_index result j ≡ taken_out (F.Field.means field.now) sums y j }
 {
+    let [a, b, c, d] = sums;
     [
-        sums[1] ^ field.product(y, sums[0]),
-        sums[2] ^ field.product(y, sums[1]),
-        sums[3] ^ field.product(y, sums[2]),
+        b ^ field.product(y, a),
+        c ^ field.product(y, b),
+        d ^ field.product(y, c),
         0,
     ]
 }

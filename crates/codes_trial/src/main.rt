@@ -7,7 +7,7 @@ mod tries;
 use codes::{CheckCode, FourCheck, Parity};
 use columns::full_column;
 use field::{Field, TwoByte};
-use tries::FourTries;
+use tries::Tries;
 
 const MIXED: [u16; 16] = [
     0x0001, 0x8000, 0xFFFF, 0x1234, 0xABCD, 0x0002, 0x0003, 0x0004, 0x0005, 0x0006, 0x0007, 0x0008,
@@ -33,14 +33,22 @@ fn main(rt: HostRuntime) -> Result<(), std::io::Error> {
     println!(rt; "parity with marks and words behind the seventeen: {behind} of 17 rebuilt")
 }
 
-fn report(rt: HostRuntime, name: &str, t: FourTries) -> Result<(), std::io::Error> {
-    println!(rt; "{name}: {} rebuilt, {} otherwise", t.rebuilt, t.wrong)?;
+fn report(rt: HostRuntime, name: &str, tries: Tries) -> Result<(), std::io::Error> {
+    let Tries {
+        rebuilt,
+        refused,
+        many,
+    } = tries;
+    println!(rt;
+        "{name}: {} rebuilt, {} otherwise",
+        rebuilt.right, rebuilt.otherwise
+    )?;
     println!(rt;
         "{name}: {} refused 13 with one word falsified, {} otherwise",
-        t.refused, t.unseen
+        refused.right, refused.otherwise
     )?;
     println!(rt;
         "{name}: {} refused 15 with their count, {} otherwise",
-        t.many, t.uncounted
+        many.right, many.otherwise
     )
 }

@@ -1,153 +1,84 @@
 // Rebuilding over every choice of missing positions, counted by what came of it.
-use crate::columns::{marks_of, same, spoiled};
+use crate::columns::{marks_of, spoiled};
 use codes::CheckCode;
 use refusal::Refusal;
+use std::array;
 
-// How often each kind of try came out right, and how often not.
-#[derive(Clone, Copy)]
-pub struct FourTries {
-    pub rebuilt: u32,
-    pub wrong: u32,
-    pub refused: u32,
-    pub unseen: u32,
-    pub many: u32,
-    pub uncounted: u32,
+// How often a kind of try came out right, and how often not.
+#[derive(Clone, Copy, Default)]
+pub struct Tally {
+    pub right: u32,
+    pub otherwise: u32,
+}
+
+impl Tally {
+    fn count(&mut self, right: bool) {
+        let counter = if right {
+            &mut self.right
+        } else {
+            &mut self.otherwise
+        };
+        *counter = counter.saturating_add(1);
+    }
+}
+
+// The tries that are to rebuild the column, to be refused 13, and to be refused 15.
+#[derive(Clone, Copy, Default)]
+pub struct Tries {
+    pub rebuilt: Tally,
+    pub refused: Tally,
+    pub many: Tally,
 }
 
 // Tries every choice of missing positions whose bits are below `choices`.
-pub fn every_choice<K: CheckCode>(code: &K, column: [u16; 20], choices: u32) -> FourTries {
-    let mut tries = FourTries {
-        rebuilt: 0,
-        wrong: 0,
-        refused: 0,
-        unseen: 0,
-        many: 0,
-        uncounted: 0,
-    };
+pub fn every_choice<K: CheckCode>(code: &K, column: [u16; 20], choices: u32) -> Tries {
+    let mut tries = Tries::default();
     for bits in 0..choices {
-        tries = one_choice(code, column, bits, tries);
+        one_choice(code, column, marks_of(bits), &mut tries);
     }
     tries
 }
 
-fn one_choice<K: CheckCode>(code: &K, column: [u16; 20], bits: u32, tries: FourTries) -> FourTries {
-    let missing = ones(bits);
-    let mut after = tries;
+fn one_choice<K: CheckCode>(code: &K, column: [u16; 20], marks: [bool; 20], tries: &mut Tries) {
+    let missing = marks.iter().filter(|missing| **missing).count();
     if missing > code.r() {
-        if too_many(code, column, bits, missing) {
-            after.many = tries.many.wrapping_add(1);
-        } else {
-            after.uncounted = tries.uncounted.wrapping_add(1);
-        }
-        return after;
+        let many = code.rebuild(column, marks);
+        tries
+            .many
+            .count(many == ([0; 20], Err(Refusal::TooManyMissing(missing))));
+        return;
     }
-    if comes_back(code, column, bits) {
-        after.rebuilt = tries.rebuilt.wrapping_add(1);
-    } else {
-        after.wrong = tries.wrong.wrapping_add(1);
-    }
+    let rebuilt = code.rebuild(spoiled(column, marks), marks);
+    tries.rebuilt.count(rebuilt == (column, Ok(())));
     if missing < code.r() {
-        let seen = falsified_seen(code, column, bits);
-        after.refused = tries.refused.wrapping_add(seen.0);
-        after.unseen = tries.unseen.wrapping_add(seen.1);
+        falsify_each(code, spoiled(column, marks), marks, &mut tries.refused);
     }
-    after
 }
 
-// How many of the twenty marks are set.
-fn ones(bits: u32) -> usize {
-    let marks = marks_of(bits);
-    let mut count: usize = 0;
-    for i in 0..20usize {
-        if marks[i] {
-            count = count.wrapping_add(1);
+// Each position that is not missing is falsified in turn: 13 and twenty zeros are to come.
+fn falsify_each<K: CheckCode>(code: &K, column: [u16; 20], marks: [bool; 20], refused: &mut Tally) {
+    let nowhere = Refusal::NoColumn {
+        envelope: 0,
+        entity: 0,
+        word: 0,
+    };
+    for (i, missing) in marks.iter().enumerate() {
+        if i < 16 + code.r() && !*missing {
+            let mut wrong = column;
+            wrong[i] ^= 0x0100;
+            refused.count(code.rebuild(wrong, marks) == ([0; 20], Err(nowhere)));
         }
-    }
-    count
-}
-
-fn comes_back<K: CheckCode>(code: &K, column: [u16; 20], bits: u32) -> bool {
-    let marks = marks_of(bits);
-    let (out, flag) = code.rebuild(spoiled(column, marks), marks);
-    match flag {
-        Ok(_) => same(out, column),
-        Err(_) => false,
-    }
-}
-
-// Each position that is not missing is falsified in turn: how often 13 and twenty zeros came, and how often not.
-fn falsified_seen<K: CheckCode>(code: &K, column: [u16; 20], bits: u32) -> (u32, u32) {
-    let marks = marks_of(bits);
-    let mut refused: u32 = 0;
-    let mut other: u32 = 0;
-    let n = code.r();
-    for i in 0..20usize {
-        if i < 16 + n && !marks[i] {
-            if falsified_refused(code, column, marks, i) {
-                refused = refused.wrapping_add(1);
-            } else {
-                other = other.wrapping_add(1);
-            }
-        }
-    }
-    (refused, other)
-}
-
-fn falsified_refused<K: CheckCode>(
-    code: &K,
-    column: [u16; 20],
-    marks: [bool; 20],
-    i: usize,
-) -> bool {
-    let mut wrong = spoiled(column, marks);
-    if i < 20 {
-        wrong[i] ^= 0x0100;
-    }
-    let (out, flag) = code.rebuild(wrong, marks);
-    match flag {
-        Err(
-            Refusal::NoColumn {
-                envelope,
-                entity,
-                word,
-            },
-        ) => envelope == 0 && entity == 0 && word == 0 && same(out, [0; 20]),
-        _ => false,
-    }
-}
-
-fn too_many<K: CheckCode>(code: &K, column: [u16; 20], bits: u32, missing: usize) -> bool {
-    let (out, flag) = code.rebuild(column, marks_of(bits));
-    match flag {
-        Err(Refusal::TooManyMissing(count)) => count == missing && same(out, [0; 20]),
-        _ => false,
     }
 }
 
 // How many of the first seventeen positions come back when all that lies behind them is marked and has other words.
-pub fn marked_behind<K: CheckCode>(code: &K, column: [u16; 20]) -> u32 {
-    let mut good: u32 = 0;
-    for i in 0..17u32 {
-        if comes_back_behind(code, column, i) {
-            good = good.wrapping_add(1);
-        }
-    }
-    good
+pub fn marked_behind<K: CheckCode>(code: &K, column: [u16; 20]) -> usize {
+    (0..17).filter(|i| comes_back(code, column, *i)).count()
 }
 
-fn comes_back_behind<K: CheckCode>(code: &K, column: [u16; 20], i: u32) -> bool {
-    let mut marks = marks_of(0);
-    if i < 17 {
-        marks[i as usize] = true;
-    }
+fn comes_back<K: CheckCode>(code: &K, column: [u16; 20], i: usize) -> bool {
+    let marks = array::from_fn(|k| k == i || k >= 17);
     let mut wrong = spoiled(column, marks);
-    for k in 17..20usize {
-        marks[k] = true;
-        wrong[k] = 0xFFFF;
-    }
-    let (out, flag) = code.rebuild(wrong, marks);
-    match flag {
-        Ok(_) => same(out, column),
-        Err(_) => false,
-    }
+    wrong[17..].fill(0xFFFF);
+    code.rebuild(wrong, marks) == (column, Ok(()))
 }

@@ -1,18 +1,14 @@
 -- One column more has its check words. Assumes nothing.
 use Rattle.std.proofs.Common.{◌≡◌, ℕ, zero, suc, ◌+◌, ◌-◌, ◌*◌, ◌<◌, ◌≤◌, false, ◌≢◌, List, [], ◌∷◌, ◌++◌, get_or, take, replicate, sym, refl, ap, ◌∙◌, subst, ap₂, inl, inr, eq-or-lt_of_le, arith}
 use Rattle.codes.specs.Code.{Code, check_four}
+use Rattle.codes.proofs.Blanking.{zeros_at}
 use Rattle.columns.specs.Columns.{word_at, column, is_check, check_at}
 use Rattle.columns.proofs.WordLaws.{front_same}
 use Rattle.columns.proofs.CheckBytes.{data-byte}
 
-get_or-zeros : (n j : ℕ) → ◌≡◌ {A = ℕ} (get_or (replicate n 0) j 0) 0
-get_or-zeros zero j = refl
-get_or-zeros (suc n) zero = refl
-get_or-zeros (suc n) (suc j) = get_or-zeros n j
-
 -- zeros behind a list say what its end says
 behind : (xs : List ℕ) (n j : ℕ) → get_or (xs ++ replicate n 0) j 0 ≡ get_or xs j 0
-behind [] n j = get_or-zeros n j
+behind [] n j = zeros_at n j
 behind (x ∷ xs) n zero = refl
 behind (x ∷ xs) n (suc j) = behind xs n j
 

@@ -1,7 +1,6 @@
--- Words written into a work area, column by column. Assumes nothing.
-use Rattle.std.proofs.Common.{◌≡◌, ℕ, ◌+◌, ◌*◌, ◌/◌, ◌%◌, ◌<◌, ◌≢◌, List, length, get_or, take, set, sym, ◌∙◌, arith, length-set}
-use native.Mathlib.Nat.{div-add-mod}
-use Rattle.std.proofs.lemmas.List.{get_or-set_same, get_or-set_other, get_or-take, ext_get_or, length-take-le}
+-- Words of a work area, column by column. Assumes nothing.
+use Rattle.std.proofs.Common.{◌≡◌, ℕ, ◌<◌, ◌≤◌, List, length, get_or, take, sym, ◌∙◌, lit≤, arith}
+use Rattle.std.proofs.lemmas.List.{get_or-take, ext_get_or, length-take-le, take_all}
 use Rattle.std.proofs.lemmas.List.FromFn.{fill_by_all, length-map-range_with_len, get_or-map-range_with_len}
 use Rattle.columns.specs.Columns.{word_at, column}
 
@@ -18,13 +17,17 @@ pub column-word : (bs : List ℕ) (c k : ℕ) → k < 20 → get_or (column bs c
 unfolding column
 column-word bs c k h = get_or-map-range_with_len (λ i. word_at bs i c) 0 20 k k 0 h (omega arith)
 
-pub front-made : (bs ws : List ℕ) (c : ℕ) → length ws ≡ 16 → ((k : ℕ) → k < 16 → get_or ws k 0 ≡ word_at bs k c)
-    → ws ≡ take 16 (column bs c)
-front-made bs ws c l h =
-    ext_get_or 0 ws (take 16 (column bs c)) (l ∙ sym (length-take-le 16 (column bs c)
+pub words-made : (bs ws : List ℕ) (c n : ℕ) → n ≤ 20 → length ws ≡ n → ((k : ℕ) → k < n → get_or ws k 0 ≡ word_at bs k c)
+    → ws ≡ take n (column bs c)
+words-made bs ws c n few l h =
+    ext_get_or 0 ws (take n (column bs c)) (l ∙ sym (length-take-le n (column bs c)
     (omega (arith, column-long bs c))))
-    (λ k p. h k (omega (arith, l)) ∙ sym (get_or-take 16 (column bs c) k 0 (omega (arith, l))
+    (λ k p. h k (omega (arith, l)) ∙ sym (get_or-take n (column bs c) k 0 (omega (arith, l))
     ∙ column-word bs c k (omega (arith, l))))
+
+-- the whole column is its first twenty words
+pub column_whole : (bs : List ℕ) (c : ℕ) → take 20 (column bs c) ≡ column bs c
+column_whole bs c = take_all 20 (column bs c) (omega (arith, column-long bs c))
 
 -- columns with the same words are equal
 pub column_same : (bs es : List ℕ) (c : ℕ) → ((k : ℕ) → k < 20 → word_at es k c ≡ word_at bs k c)
@@ -34,25 +37,5 @@ column_same bs es c h = column-made bs (column es c) c (column-long es c) (λ k 
 pub front_same : (bs es : List ℕ) (c : ℕ) → ((k : ℕ) → k < 16 → word_at es k c ≡ word_at bs k c)
     → take 16 (column es c) ≡ take 16 (column bs c)
 front_same bs es c h =
-    front-made bs (take 16 (column es c)) c (length-take-le 16 (column es c) (omega (arith, column-long es c)))
+    words-made bs (take 16 (column es c)) c 16 (lit≤ tt) (length-take-le 16 (column es c) (omega (arith, column-long es c)))
     (λ k p. get_or-take 16 (column es c) k 0 p ∙ column-word es c k (omega arith) ∙ h k p)
-
--- the word at two bytes just written, and at two others
-pub written : List ℕ → ℕ → ℕ → List ℕ
-written bs p w = set (set bs p (w % 256)) (p + 1) (w / 256)
-
-module _ (bs : List ℕ) (p w : ℕ) (h : p + 1 < length bs) where
-  pub written_here : get_or (written bs p w) p 0 + 256 * get_or (written bs p w) (p + 1) 0 ≡ w
-  unfolding written
-  written_here =
-      let ne : p ≢ p + 1 = omega arith in
-      let a = get_or-set_other (set bs p (w % 256)) (p + 1) p (w / 256) 0 ne
-      ∙ get_or-set_same bs p (w % 256) 0 (omega arith) in
-      let b = get_or-set_same (set bs p (w % 256)) (p + 1) (w / 256) 0 (simp length-set (omega arith)) in
-      let d = div-add-mod w 256 in
-      omega (arith, a, b, d)
-
-  pub written_there : (q : ℕ) → q ≢ p → q ≢ p + 1 → get_or (written bs p w) q 0 ≡ get_or bs q 0
-  unfolding written
-  written_there q n m = get_or-set_other (set bs p (w % 256)) (p + 1) q (w / 256) 0 m
-      ∙ get_or-set_other bs p q (w % 256) 0 n

@@ -9,10 +9,10 @@
 --   Done                   each column below m is rebuilt, and each from m on is as it was
 --   Rebuilds               all columns are rebuilt, or the first that has no right one is named
 --   RebuildsAll            the same, with what is refused before
-use Rattle.std.specs.Prelude.{◌≡◌, ℕ, ◌+◌, ◌-◌, ◌*◌, ◌/◌, ◌%◌, ◌<◌, ◌≤◌, Bool, true, false, cond, ◌&&◌, List, [], ◌∷◌, ◌++◌, map, length, take, replicate, Ok, Err, ◌==◌, nat_le, nat_lt, slice_index}
-use Rattle.std.proofs.Math.Option.{Option, some, none}
+use Rattle.std.specs.Prelude.{◌≡◌, ℕ, ◌+◌, ◌-◌, ◌*◌, ◌/◌, ◌%◌, ◌<◌, ◌≤◌, Bool, true, false, cond, ◌&&◌, List, [], ◌∷◌, ◌++◌, map, length, take, replicate, Ok, Err, ◌==◌, nat_le, nat_lt, slice_index, Option, Some, None}
 use Rattle.std.specs.List.{range_with_len}
 use Rattle.refusal.specs.Tells.{Answer, and_then}
+use Rattle.refusal.specs.Lengths.{of_length}
 use Rattle.codes.specs.Code.{Code}
 use Rattle.codes.specs.Rebuild.{seen, rebuild}
 use Rattle.codes.specs.Filling.{missing_count}
@@ -21,7 +21,7 @@ abbrev pub work_len : ℕ
 work_len = 165120
 
 abbrev pub judged_work : ℕ → Answer (Unit {0})
-judged_work n = cond (n == work_len) (Ok tt) (Err (1, n ∷ []))
+judged_work n = of_length work_len n tt
 
 abbrev pub word_at : List ℕ → ℕ → ℕ → ℕ
 word_at work i c = slice_index work (i * 8256 + 2 * c) + 256 * slice_index work (i * 8256 + 2 * c + 1)
@@ -51,15 +51,15 @@ MadeChecks code before after = elim (length before == work_len) [
 
 -- a right column, and zeros up to twenty words
 abbrev pub twenty : Code → Option (List ℕ) → Option (List ℕ)
-twenty code none = none
-twenty code (some ws) = some (ws ++ replicate (4 - code.r) 0)
+twenty code None = None
+twenty code (Some ws) = Some (ws ++ replicate (4 - code.r) 0)
 
 abbrev pub right_column : Code → List ℕ → List Bool → ℕ → Option (List ℕ)
 right_column code work marks c = twenty code (rebuild code (seen code (column work c) marks))
 
 -- the bytes of a block that no check word covers are as they were
 pub record Done (code : Code) (marks : List Bool) (before after : List ℕ) (m : ℕ) : Type 0 where
-  pub below : (c : ℕ) → c < m → right_column code before marks c ≡ some (column after c)
+  pub below : (c : ℕ) → c < m → right_column code before marks c ≡ Some (column after c)
   pub from : (c : ℕ) → m ≤ c → c < 4114 → column after c ≡ column before c
   pub uncovered : (q : ℕ) → 8228 ≤ q % 8256 → slice_index after q ≡ slice_index before q
 
@@ -68,7 +68,7 @@ abbrev pub Rebuilds : Code → List Bool → List ℕ → List ℕ → Answer (U
 Rebuilds code marks before after (Ok u) = Done code marks before after 4114
 Rebuilds code marks before after (Err e) =
     (c : ℕ) × (c < 4114) × (e ≡ (13, 0 ∷ 0 ∷ c ∷ [])) × Done code marks before after c
-    × (right_column code before marks c ≡ none)
+    × (right_column code before marks c ≡ None)
 
 -- another length is refused with 1 and more than r marks with 15, and then nothing is changed
 abbrev pub judged_marks : Code → List Bool → ℕ → Answer (Unit {0})

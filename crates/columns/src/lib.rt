@@ -6,4 +6,4 @@ mod rebuild;
 mod words;
 
 pub use make::make_checks;
-pub use words::WORK_LEN;
+pub use refusal::WORK_LEN;

@@ -3,21 +3,21 @@ ghost use Rattle.std.specs.Prelude.{◌≡◌, ℕ, ◌+◌, ◌<◌, ◌≤◌,
 ghost use Rattle.refusal.specs.Tells.{told};
 ghost use Rattle.columns.specs.Columns.{word_at, is_check, Checked, MadeChecks, judged_work};
 
-use crate::words::{WORDS, WORK_LEN, data_words, put_word};
+use crate::words::{WORDS, put_word, words_at};
 use codes::CheckCode;
-use refusal::Refusal;
+use refusal::{Refusal, WORK_LEN};
 
-// Puts the first r of four words under the data words of column c.
-fn put_checks(work: &mut [u8], c: usize, r: usize, checks: [u16; 4])
-    requires sized { length work.old ≡ 165120 }
+// Puts check words under the data words of column c.
+fn put_checks(work: &mut [u8; WORK_LEN], c: usize, checks: &[u16])
     requires within { c < 4114 }
-    requires few { r ≤ 4 }
-    ensures here { (j : ℕ) → j < r → word_at work.new (16 + j) c ≡ slice_index checks j }
+    requires few { length checks.now ≤ 4 }
+    ensures here { (j : ℕ) → j < length checks.now → word_at work.new (16 + j) c ≡ slice_index checks.now j }
     ensures elsewhere { (j k : ℕ) → k < 4114 → k ≢ c → word_at work.new (16 + j) k ≡ word_at work.old (16 + j) k }
-    ensures others { (q : ℕ) → is_check r q ≡ false → slice_index work.new q ≡ slice_index work.old q }
+    ensures others { (q : ℕ) → is_check (length checks.now) q ≡ false
+        → slice_index work.new q ≡ slice_index work.old q }
 {
-    for j in 0..r {
-        put_word(work, (16 + j) * 8256 + 2 * c, checks[j]);
+    for (j, check) in checks.iter().enumerate() {
+        put_word(work, 16 + j, c, *check);
     }
 }
 
@@ -26,20 +26,18 @@ pub fn make_checks<K: CheckCode>(code: &K, work: &mut [u8]) -> Result<(), Refusa
     ensures answer { told result ≡ judged_work (length work.old) }
     ensures work { MadeChecks (K.CheckCode.code code.now) work.old work.new }
 {
-    if work.len() != WORK_LEN {
-        return Err(Refusal::WrongLength(work.len()));
-    }
+    let len = work.len();
+    let work = work.as_mut_array().ok_or(Refusal::WrongLength(len))?;
     check_all(code, work);
     Ok(())
 }
 
-fn check_all<K: CheckCode>(code: &K, work: &mut [u8])
-    requires { length work.old ≡ 165120 }
+fn check_all<K: CheckCode>(code: &K, work: &mut [u8; WORK_LEN])
     ensures { Checked (K.CheckCode.code code.now) work.old work.new }
 {
     let r = code.r();
     for c in 0..WORDS {
-        let checks = code.check_words(data_words(work, c));
-        put_checks(work, c, r, checks);
+        let checks = code.check_words(words_at(work, c));
+        put_checks(work, c, &checks[..r]);
     }
 }

@@ -1,38 +1,42 @@
 // Every column of a work area rebuilt.
-ghost use Rattle.std.specs.Prelude.{◌≡◌, ℕ, ◌+◌, ◌%◌, ◌<◌, ◌≤◌, true, false, ◌≢◌, length, slice_index};
-ghost use Rattle.std.proofs.Math.Option.{some, none};
+ghost use Rattle.std.specs.Prelude.{◌≡◌, ℕ, ◌+◌, ◌%◌, ◌<◌, ◌≤◌, true, false, ◌≢◌, slice_index};
 ghost use Rattle.refusal.specs.Tells.{told};
 ghost use Rattle.codes.specs.Filling.{missing_count};
-ghost use Rattle.columns.specs.Columns.{column, right_column, Rebuilds, RebuildsAll};
+ghost use Rattle.columns.specs.Columns.{column, right_column};
 
-use crate::words::{WORDS, column_at, put_word};
+use crate::words::{put_word, words_at};
 use codes::CheckCode;
+use refusal::WORK_LEN;
 
 // Writes column c of a work area.
-fn put_column(work: &mut [u8], c: usize, words: [u16; 20])
-    requires sized { length work.old ≡ 165120 }
+fn put_column(work: &mut [u8; WORK_LEN], c: usize, words: [u16; 20])
     requires within { c < 4114 }
     ensures here { column work.new c ≡ words }
     ensures others { (k : ℕ) → k < 4114 → k ≢ c → column work.new k ≡ column work.old k }
     ensures uncovered { (q : ℕ) → 8228 ≤ q % 8256 → slice_index work.new q ≡ slice_index work.old q }
 {
-    for i in 0..20 {
-        put_word(work, i * 8256 + 2 * c, words[i]);
+    for (i, word) in words.iter().enumerate() {
+        put_word(work, i, c, *word);
     }
 }
 
 // Rebuilds column c, if there is a right one.
-fn rebuild_column<K: CheckCode>(code: &K, work: &mut [u8], marks: [bool; 20], c: usize) -> bool
-    requires sized { length work.old ≡ 165120 }
+fn rebuild_column<K: CheckCode>(
+    code: &K,
+    work: &mut [u8; WORK_LEN],
+    marks: [bool; 20],
+    c: usize,
+) -> bool
     requires within { c < 4114 }
     requires few { missing_count marks (16 + (K.CheckCode.code code.now).r) ≤ (K.CheckCode.code code.now).r }
-    ensures found { result ≡ true → right_column (K.CheckCode.code code.now) work.old marks c ≡ some (column work.new c) }
-    ensures lacking { result ≡ false → right_column (K.CheckCode.code code.now) work.old marks c ≡ none }
+    ensures found { result ≡ true
+        → right_column (K.CheckCode.code code.now) work.old marks c ≡ Some (column work.new c) }
+    ensures lacking { result ≡ false → right_column (K.CheckCode.code code.now) work.old marks c ≡ None }
     ensures kept { result ≡ false → work.new ≡ work.old }
     ensures others { (k : ℕ) → k < 4114 → k ≢ c → column work.new k ≡ column work.old k }
     ensures uncovered { (q : ℕ) → 8228 ≤ q % 8256 → slice_index work.new q ≡ slice_index work.old q }
 {
-    let (words, flag) = code.rebuild(column_at(work, c), marks);
+    let (words, flag) = code.rebuild(words_at(work, c), marks);
     match flag {
         Ok(()) => {
             put_column(work, c, words);

@@ -1,53 +1,41 @@
 // Words and columns of a work area.
-ghost use Rattle.std.specs.Prelude.{◌≡◌, ℕ, ◌+◌, ◌*◌, ◌/◌, ◌%◌, ◌<◌, ◌≢◌, length, take, slice_index, slice_set};
-ghost use Rattle.columns.specs.Columns.{column};
+ghost use Rattle.std.specs.Prelude.{◌≡◌, ◌+◌, ◌*◌, ◌/◌, ◌%◌, ◌<◌, ◌≤◌, take, slice_set};
+ghost use Rattle.columns.specs.Columns.{word_at, column};
 
-// The bytes of a work area: twenty blocks.
-pub const WORK_LEN: usize = 165_120;
+use refusal::{BLOCK_LEN, WORK_LEN};
+use std::array;
+
 // The words of a block that check words cover.
-pub const WORDS: usize = 4114;
+pub(crate) const WORDS: usize = 4114;
 
-const BLOCK_LEN: usize = 8256;
-
-// The word at two bytes, low byte first.
-fn word(bytes: &[u8], at: usize) -> u16
-    requires { at + 1 < length bytes.now }
-    ensures { result ≡ slice_index bytes.now at + 256 * slice_index bytes.now (at + 1) }
+// Word c of the block at position i, low byte first.
+fn word(work: &[u8; WORK_LEN], i: usize, c: usize) -> u16
+    requires block { i < 20 }
+    requires word { c < 4114 }
+    ensures { result ≡ word_at work.now i c }
 {
-    u16::from(bytes[at]) + 256 * u16::from(bytes[at + 1])
+    let at = i * BLOCK_LEN + 2 * c;
+    u16::from_le_bytes([work[at], work[at + 1]])
 }
 
-// Writes a word into two bytes, low byte first.
-pub(crate) fn put_word(bytes: &mut [u8], at: usize, w: u16)
-    requires { at + 1 < length bytes.old }
-    ensures { bytes.new ≡ slice_set (slice_set bytes.old at (w % 256)) (at + 1) (w / 256) }
+// Writes word c of the block at position i, low byte first.
+pub(crate) fn put_word(work: &mut [u8; WORK_LEN], i: usize, c: usize, word: u16)
+    requires block { i < 20 }
+    requires word { c < 4114 }
+    ensures { let at = i * 8256 + 2 * c in
+        work.new ≡ slice_set (slice_set work.old at (word % 256)) (at + 1) (word / 256) }
 {
-    bytes[at] = (w % 256) as u8;
-    bytes[at + 1] = (w / 256) as u8;
+    let at = i * BLOCK_LEN + 2 * c;
+    let [low, high] = word.to_le_bytes();
+    work[at] = low;
+    work[at + 1] = high;
 }
 
-// Column c of a work area.
-pub(crate) fn column_at(work: &[u8], c: usize) -> [u16; 20]
-    requires sized { length work.now ≡ 165120 }
+// The first N words of column c.
+pub(crate) fn words_at<const N: usize>(work: &[u8; WORK_LEN], c: usize) -> [u16; N]
+    requires few { N ≤ 20 }
     requires within { c < 4114 }
-    ensures { result ≡ column work.now c }
+    ensures { result ≡ take N (column work.now c) }
 {
-    let mut out = [0; 20];
-    for i in 0..20 {
-        out[i] = word(work, i * BLOCK_LEN + 2 * c);
-    }
-    out
-}
-
-// The words of the data blocks in column c.
-pub(crate) fn data_words(work: &[u8], c: usize) -> [u16; 16]
-    requires sized { length work.now ≡ 165120 }
-    requires within { c < 4114 }
-    ensures { result ≡ take 16 (column work.now c) }
-{
-    let mut out = [0; 16];
-    for i in 0..16 {
-        out[i] = word(work, i * BLOCK_LEN + 2 * c);
-    }
-    out
+    array::from_fn(|i| word(work, i, c))
 }

@@ -1,8 +1,8 @@
 -- Maps of numbers that take exclusive-or to exclusive-or, and the product by tables, which is one in each factor.
 -- Assumes nothing.
 use Rattle.std.proofs.Common.{◌≡◌, ℕ, zero, suc, ◌+◌, ◌*◌, ◌/◌, ◌%◌, ◌^◌, ◌<◌, ◌≤◌, sym, ap, ◌∙◌, subst, ap₂, lt_of_lt_of_le, add-zero, mul_assoc, pow-suc, mul-zero, mul-one, arith, lit≤, pow_pos}
-use native.Mathlib.Nat.{pow-le-pow_right}
-use lib.Bits.{bit_xor, xor_block, xor_comm, xor_shr, xor_mod, xor_zero_r, xor_lt, xor_shifted}
+use Rattle.std.proofs.Math.Nat.{pow-le-pow_right}
+use Rattle.std.specs.Int.Bits.{bit_xor, xor_block, xor_comm, xor_shr, xor_mod, xor_zero_r, xor_lt, xor_shifted}
 use Rattle.field.specs.Polynomials.{double, times, product, word_product}
 use Rattle.field.specs.ExclusiveOr.{xor-swap}
 use Rattle.field.specs.Products.{times-xor_l, times-xor_r, times-double, product-xor_l, product-xor_r}

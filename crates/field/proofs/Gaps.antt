@@ -1,6 +1,6 @@
 -- An inverse is known by its product. Assumes nothing.
 use Rattle.std.proofs.Common.{◌≡◌, ℕ, ◌^◌, ◌<◌, Bool, true, false, cond, ◌&&◌, T, eqb, ltb, sym, refl, ap, ◌∙◌, subst, arith, lit<, eqb→eq}
-use lib.Bits.{bit_xor, xor_self, xor_lt}
+use Rattle.std.specs.Int.Bits.{bit_xor, xor_self, xor_lt}
 use Rattle.std.proofs.lemmas.Bool.{ltb-true}
 use Rattle.field.specs.Polynomials.{double, times, product, squares, inverse, word_product, word_inverse}
 use Rattle.field.specs.Sums.{power}

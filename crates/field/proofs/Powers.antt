@@ -1,6 +1,6 @@
 -- Powers, and sums weighted by the powers of one word. Assumes nothing.
 use Rattle.std.proofs.Common.{◌≡◌, ℕ, zero, suc, ◌+◌, ◌*◌, ◌^◌, ◌<◌, ◌≤◌, sym, ap, ◌∙◌, add-zero, add-suc, mul-zero, mul-suc}
-use lib.Bits.{bit_xor}
+use Rattle.std.specs.Int.Bits.{bit_xor}
 use Rattle.field.specs.Laws.{FieldLaws, PowersDiffer}
 use Rattle.field.specs.Sums.{nonzeros, power, weighted}
 use Rattle.field.proofs.Totals.{total_ext, total-xor}

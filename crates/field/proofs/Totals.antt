@@ -1,7 +1,7 @@
 -- Sums of words, and how many of them are not 0. Assumes nothing.
 use Rattle.std.proofs.Common.{◌≡◌, ℕ, zero, suc, ◌^◌, ◌<◌, ◌≤◌, ◌⊎◌, sym, refl, ap, ◌∙◌, ap₂, inl, inr, le_of_suc-le-suc, eq-or-lt_of_le, arith, pow_pos}
-use native.Mathlib.Decide.{ℕ_discrete}
-use lib.Bits.{bit_xor, xor_assoc, xor_self, xor_zero_r, xor_lt}
+use Rattle.std.proofs.Math.Decide.{ℕ_discrete}
+use Rattle.std.specs.Int.Bits.{bit_xor, xor_assoc, xor_self, xor_zero_r, xor_lt}
 use Rattle.field.specs.Sums.{total, flag, nonzeros}
 use Rattle.field.specs.ExclusiveOr.{xor-swap}
 

@@ -1,6 +1,6 @@
 -- Sums over the powers of distinct points: r that are 0, of at most r words that are not, leave none. Assumes nothing.
 use Rattle.std.proofs.Common.{◌≡◌, ℕ, zero, suc, ◌^◌, ◌<◌, ◌≤◌, sym, ap, ◌∙◌, ap₂, inl, inr, arith, pow_pos}
-use lib.Bits.{bit_xor, xor_self, xor_lt}
+use Rattle.std.specs.Int.Bits.{bit_xor, xor_self, xor_lt}
 use Rattle.field.specs.Laws.{FieldLaws}
 use Rattle.field.specs.Sums.{total, nonzeros}
 use Rattle.field.proofs.Totals.{

@@ -1,6 +1,6 @@
 -- Rules that hold at each number below another, or at each entry of a table, by a test that antt computes. Assumes
 -- nothing.
-use Rattle.std.specs.Prelude.{◌≡◌, ℕ, zero, suc, ◌+◌, ◌<◌, Bool, true, false, T, List, [], ◌∷◌, length, ◌==◌, slice_index}
+use Rattle.std.specs.Prelude.{◌≡◌, ℕ, zero, suc, ◌+◌, ◌<◌, Bool, true, false, T, List, [], ◌∷◌, length, ◌==◌, slice_index, slice_index_or}
 use Rattle.std.proofs.Common.{sym, ◌∙◌, ap, subst, inl, inr, add-zero, zero-add, add-suc, suc-add, eq-or-lt_of_le, le_of_suc-le-suc, not-suc-le-zero, eqb→eq}
 
 -- a test of two functions at each number below n, as antt computes it
@@ -44,3 +44,30 @@ from f (x ∷ xs) i t (suc k) h =
 
 pub at : (f : ℕ → ℕ → Bool) (xs : List ℕ) → T (every f 0 xs) → (k : ℕ) → k < length xs → T (f k (slice_index xs k))
 at f xs t k h = subst (λ (m : ℕ). T (f m (slice_index xs k))) (zero-add k) (from f xs 0 t k h)
+
+-- ---- the entries of a table of rows
+
+-- the test f passes at each entry and its row and place, the rows counted from q; each row has n entries
+abbrev pub every_row : (ℕ → ℕ → ℕ → Bool) → ℕ → ℕ → List (List ℕ) → Bool
+every_row f n q [] = true
+every_row f n q (r ∷ rs) = both (length r == n) (both (every (f q) 0 r) (every_row f n (suc q) rs))
+
+row_from : (f : ℕ → ℕ → ℕ → Bool) (n : ℕ) (rows : List (List ℕ)) (i : ℕ) → T (every_row f n i rows) → (d : List ℕ)
+    → (q k : ℕ) → q < length rows → k < n → T (f (i + q) k (slice_index (slice_index_or rows q d) k))
+row_from f n [] i t d q k h l = absurd (not-suc-le-zero h)
+row_from f n (r ∷ rs) i t d zero k h l =
+    let entries : T (every (f i) 0 r) =
+    both_left (every (f i) 0 r) (every_row f n (suc i) rs) (both_right (length r == n) _ t) in
+    let long : length r ≡ n = eqb→eq (length r) n (both_left (length r == n) _ t) in
+    subst (λ (m : ℕ). T (f m k (slice_index r k))) (sym (add-zero i))
+    (at (f i) r entries k (subst (λ (m : ℕ). k < m) (sym long) l))
+row_from f n (r ∷ rs) i t d (suc q) k h l =
+    let below : T (every_row f n (suc i) rs) = both_right (every (f i) 0 r) _ (both_right (length r == n) _ t) in
+    subst (λ (m : ℕ). T (f m k (slice_index (slice_index_or rs q d) k))) (suc-add i q ∙ sym (add-suc i q))
+    (row_from f n rs (suc i) below d q k (le_of_suc-le-suc h) l)
+
+pub at_row : (f : ℕ → ℕ → ℕ → Bool) (n : ℕ) (rows : List (List ℕ)) → T (every_row f n 0 rows) → (d : List ℕ)
+    → (q k : ℕ) → q < length rows → k < n → T (f q k (slice_index (slice_index_or rows q d) k))
+at_row f n rows t d q k h l =
+    subst (λ (m : ℕ). T (f m k (slice_index (slice_index_or rows q d) k))) (zero-add q)
+    (row_from f n rows 0 t d q k h l)

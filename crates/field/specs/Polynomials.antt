@@ -10,6 +10,7 @@
 --   squares h m n b              b times its square times the square of that, n factors in all
 --   inverse h m a                a to the power 2 ^ (h + 1) - 2
 --   word_product, word_inverse, word_field  the field of two-byte words
+--   one_above k                  the two-byte word that stands for 1 at place 16 + 8 * k, for k below 2
 --   stands_for v                 the two-byte word of a polynomial of up to 32 bits
 use Rattle.std.specs.Prelude.{ℕ, zero, suc, ◌*◌, ◌/◌, ◌%◌, ◌^◌, bit_xor}
 use Rattle.field.specs.Laws.{Arithmetic}
@@ -43,6 +44,11 @@ word_inverse = inverse 15 0x1100B
 
 abbrev pub word_field : Arithmetic
 word_field = record { wide = 16; times = word_product; over = word_inverse }
+
+-- what 1 stands for 16 places up, and 24
+abbrev pub one_above : ℕ → ℕ
+one_above zero = 0x100B
+one_above (suc k) = 0x1BBB
 
 -- what a number of 32 bits stands for modulo 1100Bh: its low sixteen bits, and two bytes above them
 abbrev pub stands_for : ℕ → ℕ

@@ -32,11 +32,9 @@ pub trait Field {
     ghost apart: { (f : Self) → PowersDiffer (means f).times 2 20 };
 }
 
-// The laws of the two-byte field and of the byte field: a theorem only.
-pub fn fields_stand() -> u8
+// Does nothing: its contract states the laws of the two-byte field and of the byte field.
+pub fn fields_stand()
     ensures words { FieldLaws 16 (modulo 15 0x1100B) (opposite 15 0x1100B) }
     ensures bytes { FieldLaws 8 (modulo 7 0x11D) (opposite 7 0x11D) }
     ensures powers { (PowersDiffer (modulo 15 0x1100B) 2 20) × (PowersDiffer (modulo 7 0x11D) 2 20) }
-{
-    0
-}
+{}

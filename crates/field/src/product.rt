@@ -2,9 +2,10 @@
 ghost use Rattle.std.specs.Prelude.{◌≡◌, ◌<◌};
 ghost use Rattle.field.specs.Polynomials.{stands_for, times, word_product};
 
-use crate::tables::{above_16, above_24, nibble_times_byte};
+use crate::tables::{above, nibble_times_byte};
 
-pub fn multiply(a: u16, b: u16) -> u16
+// Modulo 1100Bh, for every word. A loop over the four places would need a shift and a step, and say no more.
+pub(crate) fn multiply(a: u16, b: u16) -> u16
     ensures { result ≡ word_product a b }
 {
     let all = by_nibble(a, b % 16)
@@ -20,12 +21,14 @@ fn by_nibble(a: u16, n: u16) -> u32
     ensures value { result ≡ times 15 0 4 a n }
     ensures narrow { result < 1048576 }
 {
-    u32::from(nibble_times_byte(n, a % 256)) ^ (u32::from(nibble_times_byte(n, a / 256)) * 256)
+    let [low, high] = a.to_le_bytes();
+    u32::from(nibble_times_byte(n, low)) ^ (u32::from(nibble_times_byte(n, high)) * 256)
 }
 
 // The word that stands for v modulo the polynomial.
 fn put_back(v: u32) -> u16
     ensures { result ≡ stands_for v }
 {
-    (v % 65536) as u16 ^ above_16((v / 65536 % 256) as u8) ^ above_24((v / 16777216) as u8)
+    let [low, high, above_16, above_24] = v.to_le_bytes();
+    u16::from_le_bytes([low, high]) ^ above(0, above_16) ^ above(1, above_24)
 }

@@ -51,8 +51,8 @@ fn reciprocal(a: u16) -> u16
     ensures { result ≡ word_inverse a }
 {
     let mut square = multiply(a, a);
-    let mut product: u16 = 1;
-    for _i in 0..15u32 {
+    let mut product = 1;
+    for _ in 0..15u32 {
         product = multiply(product, square);
         square = multiply(square, square);
     }
@@ -67,7 +67,7 @@ fn point_at(i: usize) -> u16
         return near_point(i);
     }
     let mut x = 1;
-    for _k in 0..i {
+    for _ in 0..i {
         x = multiply(2, x);
     }
     x

@@ -1,19 +1,12 @@
-use mathlib.Core.Path.{◌≡◌, ap, ap₂, ◌∙◌}
-use mathlib.Core.List.{◌∷◌, []}
-use Prim.Native.Nat.{ℕ, zero, suc, ◌/◌, ◌%◌, ◌^◌, ◌<◌}
-use native.Mathlib.Omega.{arith}
-use lib.Dec.{lit<}
-use lib.Bits.{bit_xor, xor_lt}
-use lib.ListN.{get_or}
-use borrow.Author.Rules.{rules}
-use Rattle.check_groups.specs.Groups.{numbers, number, next_word}
+use Rattle.std.proofs.Common.{◌≡◌, refl, ℕ, zero, suc, ◌/◌, ◌%◌, ◌^◌, ◌<◌, [], ◌∷◌, get_or, ap, ◌∙◌, ap₂, arith, lit<, rules, bit_xor}
+use Rattle.std.specs.Int.Bits.{xor_lt}
+use Rattle.check_groups.specs.Groups.{number, next_word}
 use Rattle.check_groups.proofs.Lanes.{pack, lane, lane-lt, joined, lane_0, lane_1, lane_2, lane_3}
 use Rattle.check_groups.proofs.LanesNext.{number_lt, lane_next}
 use Rattle.check_groups.proofs.group.next.Goals as goal
 
 pub returns : goal.returns
-unfolding number numbers
-returns c = at
+returns c = ap₂ ◌∷◌ w0 (ap₂ ◌∷◌ w1 (ap₂ ◌∷◌ w2 (ap₂ ◌∷◌ w3 refl)))
   where
     s : ℕ → ℕ
     s q = get_or c.args.state q 0
@@ -37,28 +30,43 @@ returns c = at
     lt = lane-lt number number_lt (λ q. bit_xor (s q) (g q)) x_lt
 
     all : ℕ
-    all = bit_xor (bit_xor (bit_xor c.products_0.result c.products_1.result) c.products_2.result)
-        c.products_3.result
+    all = bit_xor (bit_xor (bit_xor c.products.result c.products-2.result) c.products-3.result) c.products-4.result
 
     packed : all ≡ pack (l 0) (l 1) (l 2) (l 3)
     packed =
-        ap₂ bit_xor (ap₂ bit_xor (ap₂ bit_xor c.products_0.ensures c.products_1.ensures)
-        c.products_2.ensures) c.products_3.ensures
+        ap₂ bit_xor (ap₂ bit_xor (ap₂ bit_xor c.products.ensures c.products-2.ensures) c.products-3.ensures)
+        c.products-4.ensures
         ∙ joined number number_lt (λ q. bit_xor (s q) (g q)) x_lt
 
-    at : (p : ℕ) → p < 4
-        → get_or (all % 65536 ∷ all / 65536 % 65536 ∷ all / 4294967296 % 65536 ∷ all / 281474976710656 % 65536 ∷ []) p 0
-        ≡ next_word s g p
-    at zero h = ap (λ z. z % 65536) packed ∙ lane_0 (l 0) (l 1) (l 2) (l 3) (lt 0 (lit< tt)) ∙ lane_next s g x_lt 0
-    at (suc zero) h =
-        ap (λ z. z / 65536 % 65536) packed ∙ lane_1 (l 0) (l 1) (l 2) (l 3) (lt 0 (lit< tt)) (lt 1 (lit< tt))
+    r0 : c.from_le_bytes.result ≡ all % 65536
+    r0 = search rules
+
+    r1 : c.from_le_bytes-2.result ≡ all / 65536 % 65536
+    r1 = search rules
+
+    r2 : c.from_le_bytes-3.result ≡ all / 4294967296 % 65536
+    r2 = search rules
+
+    r3 : c.from_le_bytes-4.result ≡ all / 281474976710656 % 65536
+    r3 = search rules
+
+    w0 : c.from_le_bytes.result ≡ next_word s g 0
+    w0 =
+        r0 ∙ ap (λ z. z % 65536) packed ∙ lane_0 (l 0) (l 1) (l 2) (l 3) (lt 0 (lit< tt)) ∙ lane_next s g x_lt 0
+
+    w1 : c.from_le_bytes-2.result ≡ next_word s g 1
+    w1 =
+        r1 ∙ ap (λ z. z / 65536 % 65536) packed ∙ lane_1 (l 0) (l 1) (l 2) (l 3) (lt 0 (lit< tt)) (lt 1 (lit< tt))
         ∙ lane_next s g x_lt 1
-    at (suc (suc zero)) h =
-        ap (λ z. z / 4294967296 % 65536) packed
+
+    w2 : c.from_le_bytes-3.result ≡ next_word s g 2
+    w2 =
+        r2 ∙ ap (λ z. z / 4294967296 % 65536) packed
         ∙ lane_2 (l 0) (l 1) (l 2) (l 3) (lt 0 (lit< tt)) (lt 1 (lit< tt)) (lt 2 (lit< tt))
         ∙ lane_next s g x_lt 2
-    at (suc (suc (suc zero))) h =
-        ap (λ z. z / 281474976710656 % 65536) packed
+
+    w3 : c.from_le_bytes-4.result ≡ next_word s g 3
+    w3 =
+        r3 ∙ ap (λ z. z / 281474976710656 % 65536) packed
         ∙ lane_3 (l 0) (l 1) (l 2) (l 3) (lt 0 (lit< tt)) (lt 1 (lit< tt)) (lt 2 (lit< tt)) (lt 3 (lit< tt))
         ∙ lane_next s g x_lt 3
-    at (suc (suc (suc (suc p)))) h = absurd (omega arith)

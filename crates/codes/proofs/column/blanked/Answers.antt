@@ -1,27 +1,14 @@
-use Rattle.std.proofs.Common.{◌+◌, ◌<◌, length, get_or, sym, refl, ap, ◌∙◌, subst, arith, length-set}
-use Rattle.codes.specs.Filling.{Blanked}
-use Rattle.codes.proofs.Blanking.{blank_none, blank_more, blank_skip}
+use Rattle.std.proofs.Common.{◌≡◌, false, not, ◌&&◌, length, get_or, ltb, cond, zero-add, rules, tests}
+use Rattle.codes.proofs.Blanking.{blank_all}
+use Rattle.codes.proofs.Made.{made_at}
 use Rattle.codes.proofs.column.blanked.Goals as goal
-use Rattle.codes.proofs.column.blanked.Goals.{then-not-marks-i, else-not-marks-i}
 
-pub loop-i-init : goal.loop-i-init
-loop-i-init c = (refl, blank_none c.args.column c.args.marks)
-
-pub loop-i-preserved : goal.loop-i-preserved
-loop-i-preserved c =
-    let lt : c.loop-i.i < 20 = omega arith in
-    elim c.if-not-marks-i.branch [
-      | then-not-marks-i w ↦ (
-        ap length w.out-is ∙ length-set c.loop-i.out c.loop-i.i (get_or c.args.column c.loop-i.i 0)
-            ∙ c.loop-i.invariant.0,
-        subst (λ t. Blanked c.args.column c.args.marks (c.loop-i.i + 1) t) (sym w.out-is)
-            (blank_more c.args.column c.args.marks c.loop-i.i c.loop-i.out c.loop-i.invariant.0 lt
-            c.loop-i.invariant.1 w.if-not-marks-i.true),
-      )
-      | else-not-marks-i w ↦ (
-        ap length w.out-is ∙ c.loop-i.invariant.0,
-        subst (λ t. Blanked c.args.column c.args.marks (c.loop-i.i + 1) t) (sym w.out-is)
-            (blank_skip c.args.column c.args.marks c.loop-i.i c.loop-i.out c.loop-i.invariant.1
-            w.if-not-marks-i.false),
-      )
-    ]
+pub returns : goal.returns
+returns c =
+    let column = c.args.column.now in
+    let marks = c.args.marks.now in
+    let lc : length column ≡ 20 = search rules in
+    let lo : length c.from_fn.result ≡ 20 = search rules in
+    blank_all column marks c.args.n c.from_fn.result lc lo
+    (λ i h. made_at _ _ (λ k y. y ≡ cond (ltb k c.args.n && not (get_or marks k false)) (get_or column k 0) 0)
+    (λ k y q called. search (rules, tests)) c.from_fn.result 20 0 c.from_fn.ensures.items.each i i h (zero-add i) 0)

@@ -1,5 +1,5 @@
 use Rattle.std.proofs.Common.{◌*◌, ◌<◌, ap, ◌∙◌, ap₂, arith}
-use lib.Bits.{bit_xor}
+use Rattle.std.proofs.Common.{bit_xor}
 use Rattle.field.proofs.Additive.{back, product_by_tables}
 use Rattle.field.proofs.product.multiply.Goals as goal
 

@@ -3,12 +3,12 @@ use Rattle.field.specs.Polynomials.{word_product}
 use Rattle.field.specs.Sums.{power}
 use Rattle.field.proofs.two_byte.point_at.Goals as goal
 
-pub loop-k-init : goal.loop-k-init
+pub loop-init : goal.loop-init
 unfolding power
-loop-k-init c = refl
+loop-init c = refl
 
-pub loop-k-preserved : goal.loop-k-preserved
+pub loop-preserved : goal.loop-preserved
 unfolding power
-loop-k-preserved c =
-    c.multiply-x.ensures ∙ ap (word_product 2) c.loop-k.invariant
-    ∙ ap (power word_product 2) (sym (add-one c.loop-k._k))
+loop-preserved c =
+    c.multiply-x.ensures ∙ ap (word_product 2) c.loop.invariant
+    ∙ ap (power word_product 2) (sym (add-one c.loop.counter))

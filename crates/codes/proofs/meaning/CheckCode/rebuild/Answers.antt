@@ -1,4 +1,7 @@
-use Rattle.std.proofs.Common.{◌≡◌, ℕ, ◌+◌, ◌-◌, ◌<◌, ◌≤◌, ◌++◌, length, get_or, take, drop, replicate, refl, ap, ◌∙◌, subst, arith, rules}
+use Rattle.std.proofs.Common.{◌≡◌, ℕ, ◌+◌, ◌-◌, ◌<◌, ◌≤◌, ◌++◌, length, get_or, take, drop, replicate, false, sym, ap, ◌∙◌, subst, rules}
+use Rattle.std.proofs.lemmas.Bool.{false≢true}
+use Rattle.std.proofs.lemmas.Bool.Decides.{Decides-eqb}
+use Rattle.std.proofs.lemmas.Slice.Eq.{slice_eq-Decides}
 use Rattle.codes.specs.Filling.{missing_count}
 use Rattle.codes.specs.Agreeing.{all_words, fits_all}
 use Rattle.codes.proofs.Settling.{too_many, many-answered, the_column, column-answered, no-column, none-answered}
@@ -17,8 +20,8 @@ returns-then-count-r g c =
       settles = too_many code c.args.column c.args.marks count e l;
     }
 
-pub returns-then-same_tail : goal.returns-then-same_tail
-returns-then-same_tail g c =
+pub returns-then-eq : goal.returns-then-eq
+returns-then-eq g c =
     let code = g.Self.CheckCode.code c.args.self.now in
     let out = c.fill-filled.result in
     let few : missing_count c.args.marks (16 + code.r) ≤ code.r =
@@ -26,10 +29,11 @@ returns-then-same_tail g c =
     (subst (λ k. k ≤ c.r-r.result) c.count_missing-count.ensures c.if-count-r.false) in
     let small : (k : ℕ) → k < 20 → get_or out k 0 < 65536 = λ k h. search rules in
     let long : length out ≡ 20 = search rules in
-    let made : c.check_words-made.result ≡ code.checks (take 16 out) ++ replicate (4 - code.r) 0 =
-    c.check_words-made.ensures ∙ ap (λ t. code.checks t ++ replicate (4 - code.r) 0) c.front.ensures in
+    let made : c.check_words.result ≡ code.checks (take 16 out) ++ replicate (4 - code.r) 0 =
+    c.check_words.ensures ∙ ap (λ t. code.checks t ++ replicate (4 - code.r) 0) c.split.ensures.front in
     let r4 = (g.met.Self.CheckCode.lawful c.args.self.now).at_most_four in
-    let same = c.if-same_tail.ensures.0 refl in
+    let eq : c.check_words.result ≡ c.split.result.1 = search rules in
+    let same : drop 16 out ≡ c.check_words.result = sym c.split.ensures.tail ∙ sym eq in
     record {
       words = ap (λ a. a.0) (column-answered code c.args.column c.args.marks out r4 few
           c.fill-filled.ensures long small _ made same);
@@ -39,8 +43,8 @@ returns-then-same_tail g c =
           made same;
     }
 
-pub returns-else-same_tail : goal.returns-else-same_tail
-returns-else-same_tail g c =
+pub returns : goal.returns
+returns g c =
     let code = g.Self.CheckCode.code c.args.self.now in
     let out = c.fill-filled.result in
     let few : missing_count c.args.marks (16 + code.r) ≤ code.r =
@@ -52,11 +56,12 @@ returns-else-same_tail g c =
     let fits = fits_all c.args.column
     (all_words c.args.column (λ i l. below i (subst (λ m. i < m) length20 l))) in
     let long : length out ≡ 20 = search rules in
-    let made : c.check_words-made.result ≡ code.checks (take 16 out) ++ replicate (4 - code.r) 0 =
-    c.check_words-made.ensures ∙ ap (λ t. code.checks t ++ replicate (4 - code.r) 0) c.front.ensures in
+    let made : c.check_words.result ≡ code.checks (take 16 out) ++ replicate (4 - code.r) 0 =
+    c.check_words.ensures ∙ ap (λ t. code.checks t ++ replicate (4 - code.r) 0) c.split.ensures.front in
     let r4 = (g.met.Self.CheckCode.lawful c.args.self.now).at_most_four in
-    let other : drop 16 out ≡ c.check_words-made.result → ⊥ =
-    λ e. let f = c.if-same_tail.ensures.1 e in absurd (let z : ◌≡◌ {A = ℕ} 0 1 = cc in omega arith) in
+    let other : drop 16 out ≡ c.check_words.result → ⊥ =
+    λ e. false≢true ((slice_eq-Decides Decides-eqb c.check_words.result c.split.result.1 false c.if-eq.ensures).1
+    (sym e ∙ sym c.split.ensures.tail)) in
     record {
       words = ap (λ a. a.0) (none-answered code c.args.column c.args.marks out r4 few
           c.fill-filled.ensures long small _ made fits other);

@@ -1,6 +1,8 @@
-use Rattle.std.proofs.Common.{◌≡◌, ℕ, zero, suc, ◌<◌, List, [], ◌∷◌, length, get_or, sym, ◌∙◌, arith, lit≤, rules}
+use Rattle.std.proofs.Common.{◌≡◌, ℕ, zero, suc, ◌<◌, List, [], ◌∷◌, length, get_or, take, sym, ap, ◌∙◌, arith, lit≤, rules}
 use Rattle.field.specs.Polynomials.{word_product}
-use Rattle.field.specs.Sums.{weighted}
+use Rattle.std.proofs.lemmas.List.{length-take-le, get_or-take}
+use Rattle.field.specs.Sums.{total, weighted}
+use Rattle.field.proofs.Totals.{total_ext}
 use Rattle.codes.specs.TwoCodes.{parity}
 use Rattle.codes.specs.BothSolve.{parity_solves, plain-sum}
 use Rattle.codes.proofs.FilledCodes.{filled_code}
@@ -13,13 +15,18 @@ first-sum x blank e (suc j) h = absurd (omega arith)
 
 pub filled_in-requires : goal.filled_in-requires
 filled_in-requires c =
-    let fits : (k : ℕ) → k < 17 → get_or c.blanked-blank.result k 0 < 65536 = λ k h. search rules in
+    let blank = c.blanked-blank.result in
+    let fits : (k : ℕ) → k < 17 → get_or blank k 0 < 65536 = λ k h. search rules in
+    let long : length blank ≡ 20 = search rules in
+    let front : length (take 17 blank) ≡ 17 = length-take-le 17 blank (omega (arith, long)) in
+    let sum : c.xor.result ≡ total (λ i. get_or blank i 0) 17 =
+    c.xor.ensures ∙ ap (total (λ i. get_or (take 17 blank) i 0)) front
+    ∙ total_ext _ _ 17 (λ i h. get_or-take 17 blank i 0 h) in
     record {
       few = lit≤ tt;
       fits = fits;
       zeros = c.blanked-blank.ensures.absent;
-      sums = first-sum c.xor_column.result c.blanked-blank.result (c.xor_column.ensures
-          ∙ sym (plain-sum 17 (λ i. get_or c.blanked-blank.result i 0) fits));
+      sums = first-sum c.xor.result blank (sum ∙ sym (plain-sum 17 (λ i. get_or blank i 0) fits));
     }
 
 pub returns : goal.returns
