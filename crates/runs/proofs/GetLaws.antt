@@ -1,17 +1,12 @@
 -- A loop that gets the places of a run into a work area. Assumes nothing.
-use Rattle.std.proofs.Common.{◌≡◌, ℕ, zero, suc, ◌+◌, ◌*◌, ◌%◌, ◌≤◌, List, [], ◌∷◌, ◌++◌, length, drop, Ok, sym, refl, ap, ◌∙◌, add-one, arith}
+use Rattle.std.proofs.Common.{◌≡◌, ℕ, zero, suc, ◌+◌, ◌*◌, ◌%◌, ◌≤◌, List, [], ◌++◌, length, drop, Ok, sym, refl, ap, ◌∙◌, add-one, arith}
 use borrow.Rule.Slice.PartMut.{put_mid}
 use Rattle.std.proofs.lemmas.Bool.Decides.{nat_tests}
 use Rattle.std.specs.List.{range_with_len, flat_map}
-use Rattle.std.proofs.lemmas.List.{append_assoc, append-nil, map-id, drop-drop, drop_all, length-append, take_at, drop_at, flat_map_more}
-use Rattle.std.proofs.lemmas.List.FromFn.{map-range_with_len_more}
+use Rattle.std.proofs.lemmas.List.{append_assoc, append-nil, drop-drop, drop_all, length-append, take_at, drop_at, flat_map_more}
 use Rattle.cards.specs.Content.{block_len, Content, content_at, bytes_of, Whole}
 use Rattle.runs.specs.Runs.{judged_blocks, run_bytes}
-
-counting_more : (n : ℕ) → range_with_len 0 (n + 1) ≡ range_with_len 0 n ++ n ∷ []
-counting_more n =
-    sym (map-id (range_with_len 0 (n + 1))) ∙ map-range_with_len_more (λ i. i) 0 n n (omega arith)
-    ∙ ap (λ z. z ++ n ∷ []) (map-id (range_with_len 0 n))
+use Rattle.runs.proofs.BlockLaws.{counting_more}
 
 run_bytes_none : (cs : List Content) (s : ℕ) → run_bytes cs s 0 ≡ []
 unfolding run_bytes
