@@ -5,9 +5,8 @@ use Rattle.cards.specs.Rows.{laid}
 use Rattle.cards.proofs.RowLaws.{length-rows}
 use Rattle.cards.proofs.rows.put_row.Goals as goal
 
-pub returns-in_err-judge_call : goal.returns-in_err-judge_call
-returns-in_err-judge_call c = let n = length-rows c.args.mem.now in
-    record { answer = search rules; memory = search rules }
+pub returns-in_err-judge_call-clause-answer : goal.returns-in_err-judge_call-clause-answer
+returns-in_err-judge_call-clause-answer c = let n = length-rows c.args.mem.now in search rules
 
 pub returns-clause-answer : goal.returns-clause-answer
 returns-clause-answer c = let n = length-rows c.args.mem.now in search rules
