@@ -1,5 +1,5 @@
 -- Laws of places that are dealt out to four memories. Assumes nothing.
-use Rattle.std.proofs.Common.{◌≡◌, ℕ, ◌*◌, ◌/◌, ◌%◌, ◌<◌, ◌≢◌, List, [], map, length, set, Ok, sym, refl, ap, ◌∙◌, ⊎_elim, arith}
+use Rattle.std.proofs.Common.{◌≡◌, ℕ, ◌*◌, ◌/◌, ◌%◌, ◌<◌, ◌≢◌, List, [], map, length, set, Ok, sym, refl, ap, ◌∙◌, subst, ⊎_elim, arith}
 use Rattle.std.specs.List.{range_with_len}
 use Rattle.std.proofs.lemmas.List.{get_or-set_same, get_or-set_other}
 use Rattle.std.proofs.lemmas.List.FromFn.{length-map-range_with_len, get_or-map-range_with_len}
@@ -25,25 +25,27 @@ pub row_within : (ms : List (List ℕ)) (p : ℕ) → p < 4 * shortest ms → p 
 row_within ms p h = let s = shortest-le ms (p % 4) (omega arith) in omega arith
 
 -- what a call for a place answers is what it answers for the place's row on its track
-pub judged_on_track : (ms : List (List ℕ)) (p n : ℕ) → judged n (4 * shortest ms) p ≡ Ok tt
-    → judged n (length (rows (memory_of ms (p % 4)))) (p / 4) ≡ judged n (length (dealt ms)) p
-judged_on_track ms p n g =
-    let l = judged_within n (4 * shortest ms) p g in
-    judged_ok n (length (rows (memory_of ms (p % 4)))) (p / 4) (judged-length n (4 * shortest ms) p g)
-    (rw (length-rows (memory_of ms (p % 4))) (row_within ms p l))
-    ∙ sym (ap (λ z. judged n z p) (length-dealt ms) ∙ g)
+module _ (ms : List (List ℕ)) (p : ℕ) where
+  within : p < length (dealt ms) → p < 4 * shortest ms
+  within l = subst (λ z. p < z) (length-dealt ms) l
 
-pub judged_place_on_track : (ms : List (List ℕ)) (p : ℕ) → judged_place (4 * shortest ms) p ≡ Ok tt
-    → judged_place (length (rows (memory_of ms (p % 4)))) (p / 4) ≡ judged_place (length (dealt ms)) p
-judged_place_on_track ms p g =
-    judged_place_ok (length (rows (memory_of ms (p % 4)))) (p / 4)
-    (rw (length-rows (memory_of ms (p % 4))) (row_within ms p (judged_place_lem (4 * shortest ms) p g)))
-    ∙ sym (ap (λ z. judged_place z p) (length-dealt ms) ∙ g)
+  row_there : p < length (dealt ms) → p / 4 < length (rows (memory_of ms (p % 4)))
+  row_there l = rw (length-rows (memory_of ms (p % 4))) (row_within ms p (within l))
 
-pub content_on_track : (ms : List (List ℕ)) (p : ℕ) → p < 4 * shortest ms
-    → content_at (rows (memory_of ms (p % 4))) (p / 4) ≡ content_at (dealt ms) p
-content_on_track ms p l =
-    content_at-rows (memory_of ms (p % 4)) (p / 4) (row_within ms p l) ∙ sym (content_at-dealt ms p l)
+  pub judged_on_track : (n : ℕ) → judged n (length (dealt ms)) p ≡ Ok tt
+      → judged n (length (rows (memory_of ms (p % 4)))) (p / 4) ≡ Ok tt
+  judged_on_track n g =
+      judged_ok n (length (rows (memory_of ms (p % 4)))) (p / 4) (judged-length n (length (dealt ms)) p g)
+      (row_there (judged_within n (length (dealt ms)) p g))
+
+  pub judged_place_on_track : judged_place (length (dealt ms)) p ≡ Ok tt
+      → judged_place (length (rows (memory_of ms (p % 4)))) (p / 4) ≡ Ok tt
+  judged_place_on_track g =
+      judged_place_ok (length (rows (memory_of ms (p % 4)))) (p / 4) (row_there (judged_place_lem (length (dealt ms)) p g))
+
+  pub content_on_track : p < length (dealt ms) → content_at (rows (memory_of ms (p % 4))) (p / 4) ≡ content_at (dealt ms) p
+  content_on_track l =
+      content_at-rows (memory_of ms (p % 4)) (p / 4) (row_within ms p (within l)) ∙ sym (content_at-dealt ms p (within l))
 
 -- the memory of place p changes in the row of p alone
 module _ (ms : List (List ℕ)) (four : length ms ≡ 4) (p : ℕ) (l : p < 4 * shortest ms) (after : List ℕ) (x : Content)

@@ -109,7 +109,7 @@ impl Card for FourTrackCard<'_> {
     }
 
     fn get(&self, place: usize, buf: &mut [u8]) -> Result<Kind, Refusal> {
-        judge_call(buf.len(), place, 4 * self.rows())?;
+        judge_call(buf.len(), place, self.places())?;
         get_row(self.memory(track_of(place)), row_of(place), buf)
     }
 
@@ -122,7 +122,7 @@ impl Card for FourTrackCard<'_> {
             ≡ put_memories (memories self.old) place block.now }
         ensures held { HoldsTheSame self.old self.new }
     {
-        judge_call(block.len(), place, 4 * self.rows())?;
+        judge_call(block.len(), place, self.places())?;
         let row = row_of(place);
         self.change(track_of(place), |mem| put_row(mem, row, block))
     }
@@ -134,7 +134,7 @@ impl Card for FourTrackCard<'_> {
         ensures memories { memories self.new ≡ strike_memories (memories self.old) place }
         ensures held { HoldsTheSame self.old self.new }
     {
-        judge_place(place, 4 * self.rows())?;
+        judge_place(place, self.places())?;
         let row = row_of(place);
         self.change(track_of(place), |mem| strike_row(mem, row))
     }

@@ -1,13 +1,8 @@
 -- What a get of a four-track card answers and copies, refused and granted. Assumes nothing.
 use Rattle.std.proofs.Common.{length, rules}
 use Rattle.cards.specs.Memories.{memories}
-use Rattle.cards.proofs.TrackLaws.{length-dealt, judged_on_track, content_on_track}
+use Rattle.cards.proofs.TrackLaws.{judged_on_track, content_on_track}
 use Rattle.cards.proofs.tracks.FourTrackCardCard.get.Goals as goal
-
-pub returns-in_err-judge_call : goal.returns-in_err-judge_call
-returns-in_err-judge_call c =
-    let n = length-dealt (memories c.args.self.now) in
-    record { answer = search rules; buffer = search rules }
 
 pub returns : goal.returns
 returns c =
