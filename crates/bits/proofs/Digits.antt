@@ -1,7 +1,7 @@
 -- The bytes of one number, and of the fields that share them. Assumes nothing.
-use Rattle.std.proofs.Common.{◌≡◌, ℕ, ◌+◌, ◌*◌, ◌/◌, ◌%◌, ◌^◌, ◌<◌, Bool, cond, List, [], ◌∷◌, length, replicate, Some, None, sym, ap, ◌∙◌, subst, ap₂, add-zero, mod-eq_of_lt, mul-one, div-one, arith, eq-eqb}
+use Rattle.std.proofs.Common.{◌≡◌, ℕ, ◌+◌, ◌*◌, ◌/◌, ◌%◌, ◌^◌, ◌<◌, List, [], ◌∷◌, length, replicate, sym, ap, ◌∙◌, subst, ap₂, add-zero, mod-eq_of_lt, mul-one, div-one, arith}
 use native.Mathlib.Nat.{mod-add-div'}
-use Rattle.bits.specs.Fields.{split, bytes, value, encode, decode, sized}
+use Rattle.bits.specs.Fields.{split, bytes, value, encode, decode}
 use Rattle.bits.proofs.BitLaws.{split-low, sum_eights, value-lt}
 
 -- the last byte of a number
@@ -51,7 +51,3 @@ pub decode_one : (n : ℕ) (bs : List ℕ) → length bs ≡ n → decode (8 * n
 decode_one n bs l =
     ap (λ (m : ℕ). m ∷ [])
     (ap (λ (m : ℕ). m % 2 ^ (8 * n)) (div-one (value bs)) ∙ mod-eq_of_lt (subst (λ (k : ℕ). value bs < 2 ^ (8 * k)) l (value-lt bs)))
-
--- as many bytes as are wanted
-pub sized_is : {A : Type 0} (n : ℕ) (bs : List ℕ) (x : A) → length bs ≡ n → sized n bs x ≡ Some x
-sized_is n bs x l = ap (λ (b : Bool). cond b (Some x) None) (eq-eqb (length bs) n l)

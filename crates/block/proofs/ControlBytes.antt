@@ -1,9 +1,10 @@
 -- The bytes of the control fields, group by group. Assumes nothing.
 use Rattle.std.proofs.Common.{◌≡◌, ℕ, ◌/◌, ◌%◌, ◌<◌, [], ◌∷◌, ◌++◌, drop, sym, refl, ap, ◌∙◌}
 use Rattle.bits.specs.Fields.{join, bytes, bit}
+use Rattle.block.specs.BlockType.{number_of}
 use Rattle.block.specs.Control.{widths1, fields1, bytes1, widths2, fields2, bytes2}
-use Rattle.block.specs.declared.control.Control1.{Control1}
-use Rattle.block.specs.declared.control.Control2.{Control2}
+use Rattle.block.specs.declared.control1.Control1.{Control1}
+use Rattle.block.specs.declared.control2.Control2.{Control2}
 use Rattle.bits.proofs.Groups.{group}
 use Rattle.bits.proofs.Digits.{bytes_one, bytes_two, bytes_three, bytes_four, bytes-nine, encode_one}
 
@@ -14,7 +15,7 @@ abbrev marks1 : Control1 → ℕ
 marks1 c = join (4 ∷ 12 ∷ []) (c.file_mark_offset ∷ c.file_mark_number ∷ [])
 
 abbrev kind1 : Control1 → ℕ
-kind1 c = join (3 ∷ 1 ∷ 4 ∷ []) (c.kind ∷ bit c.early_warning ∷ c.entities ∷ [])
+kind1 c = join (3 ∷ 1 ∷ 4 ∷ []) (number_of c.kind ∷ bit c.early_warning ∷ c.entities ∷ [])
 
 groups1 : (c : Control1)
     → bytes1 c ≡ bytes 4 (head1 c) ++ (bytes 3 c.mark ++ (bytes 1 c.compression ++ (bytes 4 c.object

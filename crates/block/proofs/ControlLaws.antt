@@ -1,6 +1,8 @@
 -- The control fields, as fields of bits, go into bytes and come out again. Assumes nothing.
-use Rattle.std.proofs.Common.{◌≡◌, ℕ, ◌*◌, ◌/◌, ◌^◌, [], ◌∷◌, length, get_or, take, drop, sym, refl, ap, ◌∙◌, mod-lt, lit<}
+use Rattle.std.proofs.Common.{◌≡◌, ℕ, ◌*◌, ◌/◌, ◌^◌, [], ◌∷◌, length, get_or, take, drop, sym, refl, ap, ◌∙◌, mod-lt, lit<, arith, ◌%◌}
 use Rattle.bits.specs.Fields.{encode, value, split, join, AllBytes}
+use Rattle.block.specs.BlockType.{number_of, type_of}
+use Rattle.block.proofs.BlockTypes.{number_again}
 use Rattle.block.specs.Control.{
   widths1,
   fields1,
@@ -17,12 +19,12 @@ use Rattle.block.specs.Control.{
   Control2Decodes,
   Control2Encodes,
 }
-use Rattle.block.specs.declared.control.Control1.{Control1}
-use Rattle.block.specs.declared.control.Control2.{Control2}
+use Rattle.block.specs.declared.control1.Control1.{Control1}
+use Rattle.block.specs.declared.control2.Control2.{Control2}
 use Rattle.bits.proofs.BitLaws.{decode_encode, encode_decode, bytes_all, flag-bit, bit-flag}
 
-control1-fields : (c : Control1) → from_fields1 (fields1 c) ≡ c
-control1-fields c = λ i. record {
+control1-fields : (c : Control1) → type_of (number_of c.kind) ≡ c.kind → from_fields1 (fields1 c) ≡ c
+control1-fields c e = λ i. record {
   reserved = c.reserved;
   format = c.format;
   mark = c.mark;
@@ -31,7 +33,7 @@ control1-fields c = λ i. record {
   sequence = c.sequence;
   file_mark_offset = c.file_mark_offset;
   file_mark_number = c.file_mark_number;
-  kind = c.kind;
+  kind = e i;
   early_warning = flag-bit c.early_warning i;
   entities = c.entities;
   back = c.back;
@@ -39,7 +41,7 @@ control1-fields c = λ i. record {
 
 pub control1_decodes : Control1Decodes
 unfolding bytes1 control1_of
-control1_decodes c h = ap from_fields1 (decode_encode widths1 (fields1 c) 20 refl h) ∙ control1-fields c
+control1_decodes c h e = ap from_fields1 (decode_encode widths1 (fields1 c) 20 refl h) ∙ control1-fields c e
 
 control2-fields : (c : Control2) → from_fields2 (fields2 c) ≡ c
 control2-fields c = λ i. record {
@@ -62,8 +64,11 @@ control2_decodes c h = ap from_fields2 (decode_encode widths2 (fields2 c) 16 ref
 
 -- the fields of what bytes hold are those fields
 fields1_back : (x : ℕ) → fields1 (from_fields1 (split widths1 x)) ≡ split widths1 x
-fields1_back x = λ i.
-    f 0 ∷ f 1 ∷ f 2 ∷ f 3 ∷ f 4 ∷ f 5 ∷ f 6 ∷ f 7 ∷ f 8 ∷ bit-flag (f 9) (mod-lt (x / 2 ^ 28) (lit< tt)) i ∷ f 10 ∷ f 11 ∷ []
+fields1_back x =
+    let again : f 8 % 8 ≡ f 8 = omega arith in
+    let kept : number_of (type_of (f 8)) ≡ f 8 = number_again (f 8) ∙ again in
+    λ i.
+    f 0 ∷ f 1 ∷ f 2 ∷ f 3 ∷ f 4 ∷ f 5 ∷ f 6 ∷ f 7 ∷ kept i ∷ bit-flag (f 9) (mod-lt (x / 2 ^ 28) (lit< tt)) i ∷ f 10 ∷ f 11 ∷ []
   where
     f : ℕ → ℕ
     f n = get_or (split widths1 x) n 0

@@ -1,6 +1,7 @@
 -- The fields that the bytes of a control field hold, group by group. Assumes nothing.
 use Rattle.std.proofs.Common.{◌≡◌, ℕ, ◌+◌, ◌-◌, ◌*◌, ◌/◌, ◌%◌, ◌^◌, ◌<◌, ◌≤◌, eqb, List, [], ◌∷◌, ◌++◌, length, take, drop, sym, refl, ap, ◌∙◌, div-one, arith, length-drop, length-take}
 use Rattle.bits.specs.Fields.{split, value, decode}
+use Rattle.block.specs.BlockType.{type_of}
 use Rattle.block.specs.Control.{widths1, from_fields1, control1_of, widths2, from_fields2, control2_of}
 use Rattle.bits.proofs.Groups.{degroup, degroup_last}
 use Rattle.bits.proofs.Digits.{decode_one}
@@ -45,7 +46,7 @@ pub control1_is : (bs : List ℕ) → length bs ≡ 20 → (h m k mark comp obj 
       sequence = seq;
       file_mark_offset = m / 4096;
       file_mark_number = m % 4096;
-      kind = k / 32;
+      kind = type_of (k / 32);
       early_warning = eqb (k / 16 % 2) 1;
       entities = k % 16;
       back = back;
@@ -62,7 +63,7 @@ control1_is bs l h m k mark comp obj seq back eh em ek e1 e2 e3 e4 e5 lh lm lk =
       sequence = sym e4 i;
       file_mark_offset = offset i;
       file_mark_number = number i;
-      kind = kind i;
+      kind = type_of (kind i);
       early_warning = eqb (sym ek i / 16 % 2) 1;
       entities = entities i;
       back = sym e5 i;

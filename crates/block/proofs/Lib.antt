@@ -1,3 +1,4 @@
+pub mod BlockTypes
 pub mod ControlLaws
 pub mod ControlBytes
 pub mod ControlRead

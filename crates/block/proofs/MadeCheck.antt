@@ -4,12 +4,15 @@ use Rattle.std.proofs.lemmas.List.{take_at, drop_at, append_assoc, drop-append-l
 use Rattle.bits.specs.Fields.{AllBytes, decode, encode, bit}
 use Rattle.bits.proofs.BitLaws.{decode_narrows}
 use Rattle.bits.proofs.Groups.{group, decode-append}
+use Rattle.block.specs.BlockType.{number_of}
+use Rattle.block.specs.declared.block_type.BlockType.{BlockType}
+use Rattle.block.specs.declared.block_type.BlockType.TheVariants.{Check}
 use Rattle.block.specs.Control.{widths1, fields1, from_fields1, bytes1, control1_of, bytes2, control2_of}
 use Rattle.block.specs.Made.{check_control}
 use Rattle.block.specs.Block.{sealed, check_block, control1_at, crc_agrees, edc_agrees, sound_kind}
 use Rattle.block.specs.Laws.{CheckMade, CheckBlocksMade}
-use Rattle.block.specs.declared.control.Control1.{Control1}
-use Rattle.block.specs.declared.control.Control2.{Control2}
+use Rattle.block.specs.declared.control1.Control1.{Control1}
+use Rattle.block.specs.declared.control2.Control2.{Control2}
 use Rattle.block.proofs.ControlLaws.{control2_decodes, length-bytes1_end, length-bytes2, bytes2-whole, bytes1-proper, bytes2-proper}
 use Rattle.block.proofs.Sealed.{all_append, all_drop, sealed-long, sealed-proper, sealed-agrees, sealed-part}
 use Rattle.block.proofs.SoundLaws.{sound_by}
@@ -24,7 +27,7 @@ end_is c =
 -- whatever stands before them
 end-fields : (xs : List ℕ) (c : Control1)
     → control1_of (xs ++ drop 16 (bytes1 c))
-    ≡ from_fields1 (decode (take 8 widths1) xs ++ (c.kind % 2 ^ 3 ∷ bit c.early_warning % 2 ∷ c.entities % 2 ^ 4 ∷ c.back % 2 ^ 24 ∷ []))
+    ≡ from_fields1 (decode (take 8 widths1) xs ++ (number_of c.kind % 2 ^ 3 ∷ bit c.early_warning % 2 ∷ c.entities % 2 ^ 4 ∷ c.back % 2 ^ 24 ∷ []))
 unfolding control1_of
 end-fields xs c =
     ap from_fields1
@@ -88,14 +91,14 @@ module _ (covered : List ℕ) (entities back : ℕ) (c2 : Control2) (l : length 
 
   pub check_is : AllBytes covered → CheckMade (check_block covered entities back c2) covered entities back c2
   check_is a =
-      let kind : (control1_at (check_block covered entities back c2)).kind ≡ 5 = ap (λ (c : Control1). c.kind) kept in
+      let kind : (control1_at (check_block covered entities back c2)).kind ≡ Check = ap (λ (c : Control1). c.kind) kept in
       record {
         long = ap length block_is ∙ sealed-long body body-length;
         proper = subst AllBytes (sym block_is) (sealed-proper body body-length (body-proper a));
         judged =
             sym (sound_by (check_block covered entities back c2) true true
             (sym (ap crc_agrees block_is ∙ sealed-agrees body body-length))
-            (sym (ap (λ (k : ℕ). sound_kind k (edc_agrees (check_block covered entities back c2))) kind)));
+            (sym (ap (λ (k : BlockType). sound_kind k (edc_agrees (check_block covered entities back c2))) kind)));
         words = words_back;
         kind = kind;
         size = λ h. ap (λ (c : Control1). c.entities) kept ∙ mod-eq_of_lt h;

@@ -4,13 +4,15 @@ use lib.ListN.{length-replicate}
 use Rattle.std.proofs.lemmas.List.{take_at, drop_at, append_assoc, get_or-drop, get_or-take}
 use Rattle.bits.specs.Fields.{AllBytes}
 use Rattle.bits.proofs.BitLaws.{decode_narrows}
+use Rattle.block.specs.BlockType.{number_of, type_of}
+use Rattle.block.proofs.BlockTypes.{type_low}
 use Rattle.block.specs.Control.{widths1, fields1, from_fields1, bytes1, control1_of, bytes2, control2_of}
 use Rattle.block.specs.Edc.{edc}
 use Rattle.block.specs.Block.{zeros, word_bytes, sealed, field_block, data_field, control1_at, crc_agrees, edc_agrees, sound_kind}
 use Rattle.block.specs.Made.{data_control, end_control, end_place}
 use Rattle.block.specs.Laws.{Made, DataBlocksMade, EndBlocksMade}
-use Rattle.block.specs.declared.control.Control1.{Control1}
-use Rattle.block.specs.declared.control.Control2.{Control2}
+use Rattle.block.specs.declared.control1.Control1.{Control1}
+use Rattle.block.specs.declared.control2.Control2.{Control2}
 use Rattle.block.proofs.ControlLaws.{control1_decodes, control2_decodes, length-bytes1, length-bytes2, bytes2-whole, bytes1-proper, bytes2-proper}
 use Rattle.block.proofs.EdcBounds.{edc-lt}
 use Rattle.block.proofs.Sealed.{all_append, sealed-long, sealed-proper, sealed-agrees, sealed-part}
@@ -20,13 +22,10 @@ word_sum : (w : ℕ) → w < 65536 → w ≡ w % 256 + w / 256 % 256 * 256
 word_sum w h = omega arith
 
 -- the type that Control Field 1 keeps
-kind-kept : (c : Control1) → c.kind < 8 → (control1_of (bytes1 c)).kind ≡ c.kind
+kind-kept : (c : Control1) → type_of (number_of c.kind) ≡ c.kind → (control1_of (bytes1 c)).kind ≡ c.kind
 unfolding bytes1 control1_of
 kind-kept c h =
-    ap (λ (f : List ℕ). (from_fields1 f).kind) (decode_narrows widths1 (fields1 c) 20 refl refl) ∙ small c.kind h
-  where
-    small : (k : ℕ) → k < 8 → k % 8 ≡ k
-    small k h = omega arith
+    ap (λ (f : List ℕ). (from_fields1 f).kind) (decode_narrows widths1 (fields1 c) 20 refl refl) ∙ type_low (number_of c.kind) ∙ h
 
 module _ (field : List ℕ) (c1 : Control1) (c2 : Control2) (l : length field ≡ 8208) where
   edge : List ℕ
@@ -114,7 +113,7 @@ module _ (field : List ℕ) (c1 : Control1) (c2 : Control2) (l : length field �
         ),
       )
 
-  pub field-made : AllBytes field → c1.kind < 8 → sound_kind c1.kind true ≡ true → Made (field_block field c1 c2) c1 c2
+  pub field-made : AllBytes field → type_of (number_of c1.kind) ≡ c1.kind → sound_kind c1.kind true ≡ true → Made (field_block field c1 c2) c1 c2
   field-made a h k =
       let kept : (control1_at (field_block field c1 c2)).kind ≡ c1.kind = ap (λ (t : List ℕ). (control1_of t).kind) first-bytes ∙ kind-kept c1 h in
       record {
@@ -125,13 +124,13 @@ module _ (field : List ℕ) (c1 : Control1) (c2 : Control2) (l : length field �
             (sym (ap crc_agrees block_is ∙ sealed-agrees body body-length))
             (sym (ap₂ sound_kind kept (edc_back a) ∙ k)));
         kind = kept;
-        first = λ w. ap control1_of first-bytes ∙ control1_decodes c1 w;
+        first = λ w. ap control1_of first-bytes ∙ control1_decodes c1 w h;
         second = λ w. ap control2_of second-bytes ∙ control2_decodes c2 w;
       }
 
 pub data_blocks_made : DataBlocksMade
 data_blocks_made field h c2 l a =
-    (field-made field (data_control h) c2 l a (lit< tt) refl, field_back field (data_control h) c2 l)
+    (field-made field (data_control h) c2 l a refl refl, field_back field (data_control h) c2 l)
 
 zeros-proper : (n : ℕ) → AllBytes (zeros n)
 unfolding zeros
@@ -143,7 +142,7 @@ unfolding zeros
 length-zeros n = length-replicate n 0
 
 pub end_blocks_made : EndBlocksMade
-end_blocks_made back place envelope tag =
-    let c1 : Control1 = end_control back in
-    let c2 : Control2 = end_place place envelope tag in
-    (field-made (zeros 8208) c1 c2 (length-zeros 8208) (zeros-proper 8208) (lit< tt) refl, field_back (zeros 8208) c1 c2 (length-zeros 8208))
+end_blocks_made h = (
+  field-made (zeros 8208) (end_control h) (end_place h) (length-zeros 8208) (zeros-proper 8208) refl refl,
+  field_back (zeros 8208) (end_control h) (end_place h) (length-zeros 8208),
+)

@@ -7,8 +7,8 @@ use Rattle.crc.specs.Crc.{crc}
 use Rattle.block.specs.Control.{bytes1, bytes2}
 use Rattle.block.specs.Edc.{edc}
 use Rattle.block.specs.Block.{zeros, sealed, field_block, word_bytes}
-use Rattle.block.specs.declared.control.Control1.{Control1}
-use Rattle.block.specs.declared.control.Control2.{Control2}
+use Rattle.block.specs.declared.control1.Control1.{Control1}
+use Rattle.block.specs.declared.control2.Control2.{Control2}
 
 -- the CRC's bytes behind the others
 pub sealed_is : (body b seal : List ℕ) (c : ℕ) → length b ≤ 8256 → c ≡ crc body → length seal ≡ 8

@@ -11,16 +11,20 @@
 --   sound b                   the CRC agrees, the type is known, and the EDC agrees where there is one
 --   length_answer b x         x, or the refusal of a buffer b that is no block long
 --   made_of b x               x in place of b, if b is a block long
-use Rattle.std.specs.Prelude.{ℕ, ◌+◌, ◌*◌, ◌/◌, ◌%◌, Bool, cond, ◌&&◌, ◌||◌, List, [], ◌∷◌, ◌++◌, length, take, drop, replicate, Ok, Err, ◌==◌, slice_index}
+use Rattle.std.specs.Prelude.{ℕ, ◌+◌, ◌*◌, ◌/◌, ◌%◌, Bool, true, false, cond, ◌&&◌, List, [], ◌∷◌, ◌++◌, length, take, drop, replicate, ◌==◌, slice_index}
 use Rattle.refusal.specs.Tells.{Answer}
+use Rattle.refusal.specs.Lengths.{of_length}
 use Rattle.bits.specs.Fields.{bytes, value}
 use Rattle.crc.specs.Crc.{crc}
 use Rattle.block.specs.Control.{bytes1, control1_of, bytes2, control2_of}
 use Rattle.block.specs.Edc.{edc}
 use Rattle.block.specs.Made.{data_control, check_control, end_control, end_place}
-use Rattle.block.specs.declared.control.Control1.{Control1}
-use Rattle.block.specs.declared.control.Control2.{Control2}
+use Rattle.block.specs.declared.block_type.BlockType.{BlockType}
+use Rattle.block.specs.declared.block_type.BlockType.TheVariants.{Data, End, Check, Other}
+use Rattle.block.specs.declared.control1.Control1.{Control1}
+use Rattle.block.specs.declared.control2.Control2.{Control2}
 use Rattle.block.specs.declared.header.DataHeader.{DataHeader}
+use Rattle.block.specs.declared.header.EndHeader.{EndHeader}
 
 abbrev pub block_len : ℕ
 block_len = 8256
@@ -58,8 +62,8 @@ field_block field c1 c2 = sealed (field ++ (word_bytes (edc field) ++ (0 ∷ 0 �
 abbrev pub data_block : List ℕ → DataHeader → Control2 → List ℕ
 data_block field h c2 = field_block field (data_control h) c2
 
-abbrev pub end_block : ℕ → ℕ → ℕ → ℕ → List ℕ
-end_block back place envelope tag = field_block (zeros field_len) (end_control back) (end_place place envelope tag)
+abbrev pub end_block : EndHeader → List ℕ
+end_block h = field_block (zeros field_len) (end_control h) (end_place h)
 
 abbrev pub check_block : List ℕ → ℕ → ℕ → Control2 → List ℕ
 check_block covered entities back c2 = sealed (covered ++ (drop 16 (bytes1 (check_control entities back)) ++ bytes2 c2))
@@ -72,8 +76,12 @@ crc_agrees b = crc (take 8248 b) == value (take 8 (drop 8248 b))
 abbrev pub edc_agrees : List ℕ → Bool
 edc_agrees b = edc (data_field b) == slice_index b 8208 + slice_index b 8209 * 256
 
-abbrev pub sound_kind : ℕ → Bool → Bool
-sound_kind kind agrees = kind == 5 || ((kind == 1 || kind == 4) && agrees)
+-- whether a block of this type may be sound, by whether its EDC agrees
+abbrev pub sound_kind : BlockType → Bool → Bool
+sound_kind Data agrees = agrees
+sound_kind End agrees = agrees
+sound_kind Check agrees = true
+sound_kind (Other n) agrees = false
 
 unfoldable pub sound : List ℕ → Bool
 sound b = crc_agrees b && sound_kind (control1_at b).kind (edc_agrees b)
@@ -82,7 +90,7 @@ sound b = crc_agrees b && sound_kind (control1_at b).kind (edc_agrees b)
 
 -- a block buffer of another length is refused with 1
 abbrev pub length_answer : {A : Type 0} → List ℕ → A → Answer A
-length_answer b x = cond (length b == block_len) (Ok x) (Err (1, length b ∷ []))
+length_answer b x = of_length block_len (length b) x
 
 -- what the buffer b holds after a call that makes x of it
 abbrev pub made_of : List ℕ → List ℕ → List ℕ

@@ -6,8 +6,9 @@
 --   control1_of, control2_of  the fields that such bytes hold
 use Rattle.std.specs.Prelude.{◌≡◌, ℕ, List, [], ◌∷◌, length, ◌==◌, slice_index}
 use Rattle.bits.specs.Fields.{encode, decode, bit, Within, AllBytes}
-use Rattle.block.specs.declared.control.Control1.{Control1}
-use Rattle.block.specs.declared.control.Control2.{Control2}
+use Rattle.block.specs.BlockType.{number_of, type_of}
+use Rattle.block.specs.declared.control1.Control1.{Control1}
+use Rattle.block.specs.declared.control2.Control2.{Control2}
 
 abbrev pub widths1 : List ℕ
 widths1 = 26 ∷ 6 ∷ 24 ∷ 8 ∷ 32 ∷ 16 ∷ 4 ∷ 12 ∷ 3 ∷ 1 ∷ 4 ∷ 24 ∷ []
@@ -15,7 +16,7 @@ widths1 = 26 ∷ 6 ∷ 24 ∷ 8 ∷ 32 ∷ 16 ∷ 4 ∷ 12 ∷ 3 ∷ 1 ∷ 4 ∷
 abbrev pub fields1 : Control1 → List ℕ
 fields1 c =
     c.reserved ∷ c.format ∷ c.mark ∷ c.compression ∷ c.object ∷ c.sequence
-    ∷ c.file_mark_offset ∷ c.file_mark_number ∷ c.kind ∷ bit c.early_warning ∷ c.entities ∷ c.back ∷ []
+    ∷ c.file_mark_offset ∷ c.file_mark_number ∷ number_of c.kind ∷ bit c.early_warning ∷ c.entities ∷ c.back ∷ []
 
 unfoldable pub bytes1 : Control1 → List ℕ
 bytes1 c = encode widths1 (fields1 c)
@@ -30,7 +31,7 @@ from_fields1 f = record {
   sequence = slice_index f 5;
   file_mark_offset = slice_index f 6;
   file_mark_number = slice_index f 7;
-  kind = slice_index f 8;
+  kind = type_of (slice_index f 8);
   early_warning = (slice_index f 9 == 1);
   entities = slice_index f 10;
   back = slice_index f 11;
@@ -68,9 +69,9 @@ from_fields2 f = record {
 unfoldable pub control2_of : List ℕ → Control2
 control2_of bs = from_fields2 (decode widths2 bs)
 
--- A control field within its widths comes back from its bytes, and bytes come back from the fields they hold.
+-- A control field within its widths, with a Block Type as numbers give it, comes back from its bytes, and bytes come back from the fields they hold.
 abbrev pub Control1Decodes : Type 0
-Control1Decodes = (c : Control1) → Within widths1 (fields1 c) → control1_of (bytes1 c) ≡ c
+Control1Decodes = (c : Control1) → Within widths1 (fields1 c) → type_of (number_of c.kind) ≡ c.kind → control1_of (bytes1 c) ≡ c
 
 abbrev pub Control1Encodes : Type 0
 Control1Encodes = (bs : List ℕ) → length bs ≡ 20 → AllBytes bs → bytes1 (control1_of bs) ≡ bs

@@ -9,9 +9,11 @@ use Rattle.bits.specs.Fields.{Within, AllBytes}
 use Rattle.block.specs.Control.{widths1, fields1, widths2, fields2}
 use Rattle.block.specs.Made.{data_control, end_control, end_place}
 use Rattle.block.specs.Block.{zeros, data_field, control1_at, control2_at, data_block, end_block, check_block, sound}
-use Rattle.block.specs.declared.control.Control1.{Control1}
-use Rattle.block.specs.declared.control.Control2.{Control2}
+use Rattle.block.specs.declared.block_type.BlockType.TheVariants.{Check}
+use Rattle.block.specs.declared.control1.Control1.{Control1}
+use Rattle.block.specs.declared.control2.Control2.{Control2}
 use Rattle.block.specs.declared.header.DataHeader.{DataHeader}
+use Rattle.block.specs.declared.header.EndHeader.{EndHeader}
 
 pub record Made (b : List ℕ) (c1 : Control1) (c2 : Control2) : Type 0 where
   pub long : length b ≡ 8256
@@ -28,16 +30,14 @@ DataBlocksMade =
 
 abbrev pub EndBlocksMade : Type 0
 EndBlocksMade =
-    (back place envelope tag : ℕ)
-    → Made (end_block back place envelope tag) (end_control back) (end_place place envelope tag)
-    × (data_field (end_block back place envelope tag) ≡ zeros 8208)
+    (h : EndHeader) → Made (end_block h) (end_control h) (end_place h) × (data_field (end_block h) ≡ zeros 8208)
 
 pub record CheckMade (b covered : List ℕ) (entities back : ℕ) (c2 : Control2) : Type 0 where
   pub long : length b ≡ 8256
   pub proper : AllBytes b
   pub judged : sound b ≡ true
   pub words : take 8228 b ≡ covered
-  pub kind : (control1_at b).kind ≡ 5
+  pub kind : (control1_at b).kind ≡ Check
   pub size : entities < 2 ^ 4 → (control1_at b).entities ≡ entities
   pub link : back < 2 ^ 24 → (control1_at b).back ≡ back
   pub second : Within widths2 (fields2 c2) → control2_at b ≡ c2

@@ -1,3 +1,4 @@
+pub mod BlockType
 pub mod Control
 pub mod Edc
 pub mod Made

@@ -5,21 +5,23 @@ ghost use Rattle.block.specs.Edc.{turned, edc};
 // The value that the sum starts from.
 const START: u16 = 0x45;
 
-// The EDC of some bytes.
+// The EDC of some bytes; a last byte alone is a word.
 pub fn edc_of(bytes: &[u8]) -> u16
     ensures { result ≡ edc bytes.now }
 {
     let mut sum = START;
-    for i in 0..bytes.len() / 2 {
-        sum = take_in(sum, bytes[2 * i], bytes[2 * i + 1]);
+    let mut rest = bytes;
+    while let [low, high, behind @ ..] = rest {
+        sum = take_in(sum, *low, *high);
+        rest = behind;
     }
-    if bytes.len() % 2 == 1 {
-        sum = take_in(sum, bytes[bytes.len() - 1], 0);
+    match rest {
+        [low] => take_in(sum, *low, 0),
+        _ => sum,
     }
-    sum
 }
 
-// The sum after one word more.
+// The sum after one word more: that is exclusive-ored in, and the sum turns by one bit to the left.
 fn take_in(sum: u16, low: u8, high: u8) -> u16
     ensures { result ≡ turned (bit_xor sum (low + 256 * high)) }
 {

@@ -1,13 +1,6 @@
-// Where the parts of a block stand, and the one refusal that all block calls share.
-ghost use Rattle.std.specs.Prelude.{◌≡◌};
-ghost use Rattle.refusal.specs.Tells.{told};
-ghost use Rattle.block.specs.Block.{length_answer};
+// Where the parts of a block stand.
 
-use refusal::Refusal;
-
-// The bytes of a block.
-pub const BLOCK_LEN: usize = 8256;
-// The bytes of its Data Field, from 0 on.
+// The bytes of the Data Field, from 0 on.
 pub const FIELD_LEN: usize = 8208;
 // Where the EDC stands, two bytes, with two zero bytes behind it.
 pub(crate) const EDC_AT: usize = 8208;
@@ -19,13 +12,3 @@ pub(crate) const KIND_AT: usize = 8228;
 pub(crate) const CONTROL2_AT: usize = 8232;
 // Where the CRC stands, eight bytes.
 pub(crate) const CRC_AT: usize = 8248;
-
-// Refuses a buffer that is not a block long.
-pub fn check_length(block: &[u8]) -> Result<(), Refusal>
-    ensures { told result ≡ length_answer block.now tt }
-{
-    if block.len() != BLOCK_LEN {
-        return Err(Refusal::WrongLength(block.len()));
-    }
-    Ok(())
-}

@@ -5,7 +5,7 @@
 --   sealed_as b f   what the buffer b holds after its Data Field is sealed with them
 use Rattle.std.specs.Prelude.{ℕ, false, List}
 use Rattle.block.specs.Block.{data_field, data_block, made_of}
-use Rattle.block.specs.declared.control.Control2.{Control2}
+use Rattle.block.specs.declared.control2.Control2.{Control2}
 use Rattle.block.specs.declared.header.DataHeader.{DataHeader}
 use Rattle.export.specs.declared.DataFields.{DataFields}
 

@@ -32,34 +32,34 @@ pub struct DataFields {
     pub starts: bool,
 }
 
-impl DataFields {
-    fn header(self) -> DataHeader
-        ensures { result ≡ header_from self }
-    {
+impl From<DataFields> for DataHeader {
+    ghost from_gives = { λ f h. h ≡ header_from f };
+
+    fn from(fields: DataFields) -> DataHeader {
         DataHeader {
-            mark: self.mark,
-            object: self.object,
-            sequence: self.sequence,
-            entities: self.entities,
-            back: self.back,
+            mark: fields.mark,
+            object: fields.object,
+            sequence: fields.sequence,
+            entities: fields.entities,
+            back: fields.back,
         }
     }
+}
 
-    fn at(self) -> Control2
-        ensures { result ≡ place_from self }
-    {
+impl From<DataFields> for Control2 {
+    ghost from_gives = { λ f c. c ≡ place_from f };
+
+    fn from(fields: DataFields) -> Control2 {
         Control2 {
-            reserved: 0,
-            offset: self.offset,
-            first: self.first,
-            place: self.place,
-            blocks: self.blocks,
-            starts: self.starts,
-            entity: self.entity,
-            envelope: self.envelope,
-            tag: self.tag,
-            k: false,
-            track: 0,
+            offset: fields.offset,
+            first: fields.first,
+            place: fields.place,
+            blocks: fields.blocks,
+            starts: fields.starts,
+            entity: fields.entity,
+            envelope: fields.envelope,
+            tag: fields.tag,
+            ..Control2::default()
         }
     }
 }
@@ -87,7 +87,7 @@ pub extern "C" fn dlt_seal_data(block: &mut [u8], fields: &DataFields) -> u8
     ensures answer { result ≡ refused_with (length_answer block.old tt) }
     ensures block { block.new ≡ sealed_as block.old fields.now }
 {
-    refused_with(make_data(block, fields.header(), fields.at()))
+    refused_with(make_data(block, (*fields).into(), (*fields).into()))
 }
 
 // Whether a block is sound: 1 or 0, and 2 for a buffer that is no block long.

@@ -65,7 +65,7 @@ fn show_fields(rt: &HostRuntime, block: &[u8]) -> io::Result<()>
     requires { length block.now ≡ 8256 }
 {
     if let Ok(c1) = read_control1(block) {
-        let kind = c1.kind;
+        let kind = u8::from(c1.kind);
         let format = c1.format;
         let object = c1.object;
         let entities = c1.entities;

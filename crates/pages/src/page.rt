@@ -5,8 +5,8 @@ ghost use Rattle.pages.specs.Page.{view, viewed, page_of, page_among, page_answe
 
 use crate::entry::{DATA, Entry, TAPE_MARK};
 use crate::map::{entry_in, map_size, start_of};
-use block::{FIELD_LEN, check_length};
-use refusal::Refusal;
+use block::{BLOCK_LEN, FIELD_LEN};
+use refusal::{Refusal, check_length};
 
 // A page of a block; its place is the byte of the block where it starts, from 0.
 #[derive(Clone, Copy)]
@@ -23,7 +23,7 @@ pub enum Page<'a> {
 pub fn page_at(block: &[u8], number: usize) -> Result<Page<'_>, Refusal>
     ensures { viewed result ≡ page_answer block.now number }
 {
-    check_length(block)?;
+    check_length(block.len(), BLOCK_LEN)?;
     page_in(&block[0..FIELD_LEN], number)
 }
 

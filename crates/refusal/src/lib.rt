@@ -8,6 +8,7 @@ ghost use Rattle.refusal.specs.Shown.{text};
 mod lengths;
 
 pub use lengths::{BLOCK_LEN, WORK_LEN, check_length, exactly};
+use std::error::Error;
 use std::fmt;
 
 // Why a call is refused. A refusal has a number from 1 to 15, and values that say what was wrong.
@@ -133,3 +134,5 @@ impl fmt::Display for Refusal {
         }
     }
 }
+
+impl Error for Refusal {}

@@ -1,10 +1,8 @@
 // EDCs, and the CRCs of end and check blocks: values worked out from the rules in words (tools/block_values.py).
-ghost use Rattle.std.specs.Prelude.{◌≡◌, length};
-
 use crate::crc_vectors::BODY_LEN;
 use crate::filling::fill;
 use crate::tally::Tally;
-use block::{BLOCK_LEN, Control2, FIELD_LEN, edc_of, is_sound, make_check, make_end};
+use block::{BLOCK_LEN, Control2, EndHeader, FIELD_LEN, edc_of, is_sound, make_check, make_end};
 use crc::crc64;
 use std::io;
 
@@ -59,39 +57,25 @@ const CHECK_AT: Control2 = Control2 {
 };
 
 // The CRC that belongs behind the first 8,248 bytes of a block.
-pub(crate) fn body_crc(block: &[u8]) -> u64
-    requires { length block.now ≡ 8256 }
-{
-    crc64(&block[0..BODY_LEN])
+pub(crate) fn body_crc(block: &[u8; BLOCK_LEN]) -> u64 {
+    crc64(&block[..BODY_LEN])
 }
 
-fn compare_edc(
-    rt: &HostRuntime,
-    tally: &mut Tally,
-    name: &str,
-    bytes: &[u8],
-    wanted: u16,
-) -> io::Result<()> {
-    tally.compare(rt, name, u64::from(edc_of(bytes)), u64::from(wanted))
+fn compare_edc(tally: &mut Tally<'_>, name: &str, bytes: &[u8], wanted: u16) -> io::Result<()> {
+    tally.compare(name, u64::from(edc_of(bytes)), u64::from(wanted))
 }
 
 // Whole Data Fields, and an odd number of bytes.
-fn filled_edcs(rt: &HostRuntime, tally: &mut Tally) -> io::Result<()> {
+fn filled_edcs(tally: &mut Tally<'_>) -> io::Result<()> {
     let mut field = [0; FIELD_LEN];
     let mut few = [0; 41];
     fill(&mut few, 7);
-    compare_edc(rt, tally, "EDC of zeros", &field, EDC_OF_ZEROS)?;
-    compare_edc(
-        rt,
-        tally,
-        "EDC of 41 bytes of fill 7",
-        &few,
-        EDC_OF_41_FILL_7,
-    )?;
+    compare_edc(tally, "EDC of zeros", &field, EDC_OF_ZEROS)?;
+    compare_edc(tally, "EDC of 41 bytes of fill 7", &few, EDC_OF_41_FILL_7)?;
     fill(&mut field, 7);
-    compare_edc(rt, tally, "EDC of fill 7", &field, EDC_OF_FILL_7)?;
+    compare_edc(tally, "EDC of fill 7", &field, EDC_OF_FILL_7)?;
     fill(&mut field, 9);
-    compare_edc(rt, tally, "EDC of fill 9", &field, EDC_OF_FILL_9)
+    compare_edc(tally, "EDC of fill 9", &field, EDC_OF_FILL_9)
 }
 
 // The EDC of zeros with 01h at one place.
@@ -103,67 +87,55 @@ fn edc_with(place: usize) -> u16 {
     edc_of(&field)
 }
 
-fn single_edcs(rt: &HostRuntime, tally: &mut Tally) -> io::Result<()> {
+fn single_edcs(tally: &mut Tally<'_>) -> io::Result<()> {
     for (place, wanted) in EDC_WITH_01_AT {
         let name = format_args!("EDC of zeros with 01 at {place}");
-        tally.compare(rt, name, u64::from(edc_with(place)), u64::from(wanted))?;
+        tally.compare(name, u64::from(edc_with(place)), u64::from(wanted))?;
     }
     Ok(())
 }
 
-fn end_block(
-    rt: &HostRuntime,
-    tally: &mut Tally,
-    back: u32,
-    place: u32,
-    wanted: u64,
-) -> io::Result<()> {
+fn end_block(tally: &mut Tally<'_>, back: u32, place: u32, wanted: u64) -> io::Result<()> {
     let mut block = [OLD; BLOCK_LEN];
-    let made = make_end(&mut block, back, place, 2, 1).is_ok();
+    let header = EndHeader {
+        back,
+        place,
+        envelope: 2,
+        tag: 1,
+    };
+    let made = make_end(&mut block, header).is_ok();
     let name = format_args!("CRC of the end block of place {place}, back link {back}");
-    tally.compare(rt, name, body_crc(&block), wanted)?;
-    tally.check(rt, "it is made and sound", made && judged(&block))
+    tally.compare(name, body_crc(&block), wanted)?;
+    tally.check("it is made and sound", made && judged(&block))
 }
 
-fn end_blocks(rt: &HostRuntime, tally: &mut Tally) -> io::Result<()> {
+fn end_blocks(tally: &mut Tally<'_>) -> io::Result<()> {
     for (back, place, wanted) in END_BLOCKS {
-        end_block(rt, tally, back, place, wanted)?;
+        end_block(tally, back, place, wanted)?;
     }
     Ok(())
 }
 
-fn put_words(block: &mut [u8])
-    requires { length block.old ≡ 8256 }
-{
-    let mut words = [0; WORDS_LEN];
-    fill(&mut words, 11);
-    block[0..WORDS_LEN].copy_from_slice(&words);
-}
-
-fn check_block(rt: &HostRuntime, tally: &mut Tally) -> io::Result<()> {
+fn check_block(tally: &mut Tally<'_>) -> io::Result<()> {
     let mut block = [OLD; BLOCK_LEN];
-    put_words(&mut block);
+    fill(&mut block[..WORDS_LEN], 11);
     let made = make_check(&mut block, 5, 0x65_4321, CHECK_AT).is_ok();
     tally.compare(
-        rt,
         "CRC of a check block of fill 11",
         body_crc(&block),
         CRC_OF_CHECK_BLOCK,
     )?;
-    tally.check(rt, "it is made and sound", made && judged(&block))
+    tally.check("it is made and sound", made && judged(&block))
 }
 
 // Whether a block is judged sound.
 pub(crate) fn judged(block: &[u8]) -> bool {
-    match is_sound(block) {
-        Ok(sound) => sound,
-        Err(_) => false,
-    }
+    is_sound(block).unwrap_or(false)
 }
 
-pub fn run(rt: &HostRuntime, tally: &mut Tally) -> io::Result<()> {
-    filled_edcs(rt, tally)?;
-    single_edcs(rt, tally)?;
-    end_blocks(rt, tally)?;
-    check_block(rt, tally)
+pub fn run(tally: &mut Tally<'_>) -> io::Result<()> {
+    filled_edcs(tally)?;
+    single_edcs(tally)?;
+    end_blocks(tally)?;
+    check_block(tally)
 }

@@ -1,8 +1,7 @@
 // The CRC-64: the published check value, and values worked out by division (tools/crc_values.py).
-ghost use Rattle.std.specs.Prelude.{◌≡◌, length};
-
 use crate::filling::fill;
 use crate::tally::Tally;
+use block::BLOCK_LEN;
 use crc::{crc64, crc64_more};
 use std::io;
 
@@ -36,39 +35,35 @@ const CRC64_ECMA182_UNREFLECTED_OF_FILL_7: [u64; 41] = [
 ];
 
 // The bytes that the CRC of a block is over.
-pub(crate) const BODY_LEN: usize = 8248;
-
-const BLOCK_LEN: usize = 8256;
+pub(crate) const BODY_LEN: usize = BLOCK_LEN - 8;
 
 const LENGTHS: usize = 41;
 
 // The check value that catalogues give for this CRC, and what follows from it.
-fn published(rt: &HostRuntime, tally: &mut Tally) -> io::Result<()> {
+fn published(tally: &mut Tally<'_>) -> io::Result<()> {
     let digits = crc64(b"123456789");
     let closed = crc64(b"123456789\x6C\x40\xDF\x5F\x0B\x49\x73\x47");
     tally.compare(
-        rt,
         "CRC-64 of 123456789",
         digits,
         CRC64_ECMA182_UNREFLECTED_OF_123456789,
     )?;
-    tally.compare(rt, "CRC-64 of 123456789 and its CRC", closed, 0)
+    tally.compare("CRC-64 of 123456789 and its CRC", closed, 0)
 }
 
-fn single_bytes(rt: &HostRuntime, tally: &mut Tally) -> io::Result<()> {
+fn single_bytes(tally: &mut Tally<'_>) -> io::Result<()> {
     let [low, high, all] = [crc64(b"\x01"), crc64(b"\x80"), crc64(b"\xFF")];
-    tally.compare(rt, "CRC-64 of 01", low, CRC64_ECMA182_UNREFLECTED_OF_01)?;
-    tally.compare(rt, "CRC-64 of 80", high, CRC64_ECMA182_UNREFLECTED_OF_80)?;
-    tally.compare(rt, "CRC-64 of FF", all, CRC64_ECMA182_UNREFLECTED_OF_FF)
+    tally.compare("CRC-64 of 01", low, CRC64_ECMA182_UNREFLECTED_OF_01)?;
+    tally.compare("CRC-64 of 80", high, CRC64_ECMA182_UNREFLECTED_OF_80)?;
+    tally.compare("CRC-64 of FF", all, CRC64_ECMA182_UNREFLECTED_OF_FF)
 }
 
 // Runs of one byte: zeros leave the register at zero.
-fn runs(rt: &HostRuntime, tally: &mut Tally) -> io::Result<()> {
+fn runs(tally: &mut Tally<'_>) -> io::Result<()> {
     let ones = crc64(&[0xFF; 32]);
-    tally.compare(rt, "CRC-64 of nothing", crc64(b""), 0)?;
-    tally.compare(rt, "CRC-64 of 8,256 zeros", crc64(&[0; BLOCK_LEN]), 0)?;
+    tally.compare("CRC-64 of nothing", crc64(b""), 0)?;
+    tally.compare("CRC-64 of 8,256 zeros", crc64(&[0; BLOCK_LEN]), 0)?;
     tally.compare(
-        rt,
         "CRC-64 of 32 times FF",
         ones,
         CRC64_ECMA182_UNREFLECTED_OF_32_FF,
@@ -76,41 +71,37 @@ fn runs(rt: &HostRuntime, tally: &mut Tally) -> io::Result<()> {
 }
 
 // Every number of bytes up to forty: whole eights, and each rest.
-fn lengths(rt: &HostRuntime, tally: &mut Tally) -> io::Result<()> {
+fn lengths(tally: &mut Tally<'_>) -> io::Result<()> {
     let mut bytes = [0; LENGTHS];
     fill(&mut bytes, 7);
-    for n in 0..LENGTHS {
+    for (n, wanted) in CRC64_ECMA182_UNREFLECTED_OF_FILL_7.iter().enumerate() {
         let name = format_args!("CRC-64 of {n} bytes of fill 7");
-        let wanted = CRC64_ECMA182_UNREFLECTED_OF_FILL_7[n];
-        tally.compare(rt, name, crc64(&bytes[..n]), wanted)?;
+        tally.compare(name, crc64(&bytes[..n]), *wanted)?;
     }
     Ok(())
 }
 
 // As many bytes as a block's CRC is over: at once, in two parts, and with their CRC behind them.
-fn body(rt: &HostRuntime, tally: &mut Tally, bytes: &[u8]) -> io::Result<()>
-    requires { length bytes.now ≡ 8248 }
-{
+fn body(tally: &mut Tally<'_>, bytes: &[u8; BODY_LEN]) -> io::Result<()> {
     let sum = crc64(bytes);
     tally.compare(
-        rt,
         "CRC-64 of 8,248 bytes of fill 9",
         sum,
         CRC64_ECMA182_UNREFLECTED_OF_8248_FILL_9,
     )?;
     let (front, back) = bytes.split_at(4099);
     let both = crc64_more(crc64(front), back);
-    tally.compare(rt, "CRC-64 of the same in two parts", both, sum)?;
+    tally.compare("CRC-64 of the same in two parts", both, sum)?;
     let closed = crc64_more(sum, &sum.to_be_bytes());
-    tally.compare(rt, "CRC-64 of the same and its CRC", closed, 0)
+    tally.compare("CRC-64 of the same and its CRC", closed, 0)
 }
 
-pub fn run(rt: &HostRuntime, tally: &mut Tally) -> io::Result<()> {
-    published(rt, tally)?;
-    single_bytes(rt, tally)?;
-    runs(rt, tally)?;
-    lengths(rt, tally)?;
+pub fn run(tally: &mut Tally<'_>) -> io::Result<()> {
+    published(tally)?;
+    single_bytes(tally)?;
+    runs(tally)?;
+    lengths(tally)?;
     let mut bytes = [0; BODY_LEN];
     fill(&mut bytes, 9);
-    body(rt, tally, &bytes)
+    body(tally, &bytes)
 }

@@ -13,9 +13,9 @@ mod tally;
 use tally::Tally;
 
 fn main(rt: HostRuntime) -> io::Result<()> {
-    let mut tally = Tally::new();
-    crc_vectors::run(&rt, &mut tally)?;
-    block_vectors::run(&rt, &mut tally)?;
-    page_vectors::run(&rt, &mut tally)?;
+    let mut tally = Tally::new(&rt);
+    crc_vectors::run(&mut tally)?;
+    block_vectors::run(&mut tally)?;
+    page_vectors::run(&mut tally)?;
     println!(rt; "{tally}")
 }

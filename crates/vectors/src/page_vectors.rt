@@ -1,6 +1,4 @@
 // A data block with a record and a tape mark: its CRC (tools/block_values.py), its pages, and its refusals.
-ghost use Rattle.std.specs.Prelude.{◌≡◌, length};
-
 use crate::block_vectors::{body_crc, judged};
 use crate::filling::fill;
 use crate::sound_vectors::{flipped, zeroed};
@@ -66,102 +64,80 @@ const HEADER: DataHeader = DataHeader {
 
 fn first_of(blocks: u8) -> Control2 {
     Control2 {
-        reserved: 0,
         offset: 1,
         first: 1,
-        place: 0,
         blocks,
         starts: true,
         entity: 1,
         envelope: 1,
         tag: 1,
-        k: false,
-        track: 0,
+        ..Control2::default()
     }
 }
 
 // Lays out both pages in a block of zeros.
-fn lay(block: &mut [u8])
-    requires { length block.old ≡ 8256 }
-{
-    let mut record = [0; RECORD_LEN];
-    fill(&mut record, SEED);
-    block[0..RECORD_LEN].copy_from_slice(&record);
+fn lay(block: &mut [u8; BLOCK_LEN]) {
+    fill(&mut block[..RECORD_LEN], SEED);
     block[MARK_ENTRY_AT..RECORD_ENTRY_AT].copy_from_slice(&MARK_ENTRY.to_bytes());
     block[RECORD_ENTRY_AT..FIELD_LEN].copy_from_slice(&RECORD_ENTRY.to_bytes());
 }
 
 fn data_block(
-    rt: &HostRuntime,
-    tally: &mut Tally,
-    block: &mut [u8],
+    tally: &mut Tally<'_>,
+    block: &mut [u8; BLOCK_LEN],
     blocks: u8,
     wanted: u64,
-) -> io::Result<()>
-    requires { length block.old ≡ 8256 }
-{
+) -> io::Result<()> {
     let made = make_data(block, HEADER, first_of(blocks)).is_ok();
     let name = format_args!("CRC of data block 1 of {blocks}");
-    tally.compare(rt, name, body_crc(block), wanted)?;
-    tally.check(rt, "it is made and sound", made && judged(block))
+    tally.compare(name, body_crc(block), wanted)?;
+    tally.check("it is made and sound", made && judged(block))
 }
 
 // Whether a page is a Data page with these bytes.
 fn is_data(page: Result<Page<'_>, Refusal>, start: usize, record: &[u8]) -> bool {
-    match page {
-        Ok(Page::Data { bytes, place }) => place == start && bytes == record,
-        _ => false,
-    }
+    matches!(page, Ok(Page::Data { bytes, place }) if place == start && bytes == record)
 }
 
 fn is_mark(page: Result<Page<'_>, Refusal>, start: usize, len: usize) -> bool {
-    match page {
-        Ok(Page::TapeMark { place, count }) => place == start && count == len,
-        _ => false,
-    }
+    matches!(page, Ok(Page::TapeMark { place, count }) if place == start && count == len)
 }
 
 fn is_refused(page: Result<Page<'_>, Refusal>, why: Refusal) -> bool {
-    match page {
-        Err(found) => found == why,
-        Ok(_) => false,
-    }
+    page.is_err_and(|found| found == why)
 }
 
-fn pages_of(rt: &HostRuntime, tally: &mut Tally, block: &[u8]) -> io::Result<()> {
+fn pages_of(tally: &mut Tally<'_>, block: &[u8]) -> io::Result<()> {
     let mut record = [0; RECORD_LEN];
     fill(&mut record, SEED);
     let data = is_data(page_at(block, 1), 0, &record);
     let mark = is_mark(page_at(block, 2), RECORD_LEN, MARK_LEN);
     let none = is_refused(page_at(block, 3), Refusal::NoSuchNumber(3));
-    tally.check(rt, "page 1 is the record, 100 bytes at 0", data)?;
-    tally.check(rt, "page 2 is the tape mark, 8092 bytes at 100", mark)?;
-    tally.check(rt, "page 3 is refused with 10", none)
+    tally.check("page 1 is the record, 100 bytes at 0", data)?;
+    tally.check("page 2 is the tape mark, 8092 bytes at 100", mark)?;
+    tally.check("page 3 is refused with 10", none)
 }
 
 fn is_too_short<T: Drop>(answer: Result<T, Refusal>) -> bool {
-    match answer {
-        Err(Refusal::WrongLength(len)) => len == SHORT_LEN,
-        _ => false,
-    }
+    answer.is_err_and(|why| why == Refusal::WrongLength(SHORT_LEN))
 }
 
 // A buffer one byte too short.
-fn short(rt: &HostRuntime, tally: &mut Tally) -> io::Result<()> {
+fn short(tally: &mut Tally<'_>) -> io::Result<()> {
     let mut bytes = [0; SHORT_LEN];
     let made = is_too_short(make_data(&mut bytes, HEADER, first_of(6)));
     let judged = is_too_short(is_sound(&bytes));
     let paged = is_refused(page_at(&bytes, 1), Refusal::WrongLength(SHORT_LEN));
-    tally.check(rt, "8255 bytes are refused with 1", made && judged && paged)
+    tally.check("8255 bytes are refused with 1", made && judged && paged)
 }
 
-pub fn run(rt: &HostRuntime, tally: &mut Tally) -> io::Result<()> {
+pub fn run(tally: &mut Tally<'_>) -> io::Result<()> {
     let mut block = [0; BLOCK_LEN];
-    zeroed(rt, tally, &block)?;
+    zeroed(tally, &block)?;
     lay(&mut block);
-    data_block(rt, tally, &mut block, 3, CRC_OF_BLOCK_1_OF_3)?;
-    data_block(rt, tally, &mut block, 6, CRC_OF_BLOCK_1_OF_6)?;
-    pages_of(rt, tally, &block)?;
-    short(rt, tally)?;
-    flipped(rt, tally, &mut block)
+    data_block(tally, &mut block, 3, CRC_OF_BLOCK_1_OF_3)?;
+    data_block(tally, &mut block, 6, CRC_OF_BLOCK_1_OF_6)?;
+    pages_of(tally, &block)?;
+    short(tally)?;
+    flipped(tally, &mut block)
 }

@@ -1,23 +1,21 @@
--- Each turn takes in one word; at the end nothing is left, or one byte. Assumes nothing.
-use Rattle.std.proofs.Common.{ℕ, ◌+◌, ◌*◌, drop, sym, refl, ap, ◌∙◌, arith}
+-- Each turn takes in one word; at the end one byte is left, or nothing. Assumes nothing.
+use Rattle.std.proofs.Common.{sym, refl, ap₂, ◌∙◌, arith, ltb-false}
+use Rattle.std.proofs.lemmas.List.{take_rest}
 use Rattle.block.specs.Edc.{words, edc_words, edc}
-use Rattle.block.proofs.EdcLaws.{edc_more, edc_all, edc_odd}
+use Rattle.block.proofs.EdcLaws.{edc_more, edc_one, edc_none}
 use Rattle.block.proofs.edc.edc_of.Goals as goal
 
-pub loop-i-init : goal.loop-i-init
+pub loop-rest-init : goal.loop-rest-init
 unfolding edc
-loop-i-init c = refl
+loop-rest-init c = refl
 
-pub loop-i-preserved : goal.loop-i-preserved
-loop-i-preserved c =
-    ap (λ (e : ℕ). edc_words e (words (drop (2 * (c.loop-i.i + 1)) c.args.bytes.now))) c.take_in-sum.ensures
-    ∙ sym (edc_more c.args.bytes.now c.loop-i.i c.loop-i.sum (omega arith)) ∙ c.loop-i.invariant
+pub loop-rest-preserved : goal.loop-rest-preserved
+loop-rest-preserved c =
+    ap₂ (λ e bs. edc_words e (words bs)) c.take_in-sum.ensures (take_rest c.loop-rest.rest.now 2)
+    ∙ sym (edc_more c.loop-rest.rest.now c.loop-rest.sum (omega (arith, ltb-false))) ∙ c.loop-rest.invariant
 
-pub returns-then-bytes-eq1 : goal.returns-then-bytes-eq1
-returns-then-bytes-eq1 c =
-    c.take_in-sum-then-bytes-eq1.ensures
-    ∙ sym (edc_odd c.args.bytes.now c.loop-i.i c.loop-i.sum (omega arith)) ∙ c.loop-i.invariant
+pub returns-in-len1 : goal.returns-in-len1
+returns-in-len1 c = c.take_in.ensures ∙ sym (edc_one c.loop-rest.rest.now c.loop-rest.sum (omega arith) (omega arith)) ∙ c.loop-rest.invariant
 
-pub returns-else-bytes-eq1 : goal.returns-else-bytes-eq1
-returns-else-bytes-eq1 c =
-    sym (edc_all c.args.bytes.now c.loop-i.i c.loop-i.sum (omega arith)) ∙ c.loop-i.invariant
+pub returns-in_default-rest : goal.returns-in_default-rest
+returns-in_default-rest c = sym (edc_none c.loop-rest.rest.now c.loop-rest.sum (omega arith)) ∙ c.loop-rest.invariant

@@ -5,6 +5,6 @@ use Rattle.block.proofs.seal.seal_crc.Goals as goal
 
 pub returns : goal.returns
 returns c =
-    let h : length c.put.new.block ≤ 8256 = omega (arith, c.put.auto.block, c.requires) in
+    let h : length c.put.new.block ≤ 8256 = omega (arith, c.put.array_long) in
     sealed_is (take 8248 c.args.block.now) c.put.new.block c.to_be_bytes-crc.result c.crc64.result h
     c.crc64.ensures (ap length c.to_be_bytes-crc.ensures) c.to_be_bytes-crc.ensures c.put.ensures

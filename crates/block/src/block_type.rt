@@ -1,0 +1,51 @@
+// Block Type: what a block is, three bits of Control Field 1.
+ghost use Rattle.std.specs.Prelude.{◌≡◌};
+ghost use Rattle.block.specs.BlockType.{type_of, number_of};
+
+#[derive(Clone, Copy, PartialEq, Eq, Debug)]
+pub enum BlockType {
+    // 1: it holds pages.
+    Data,
+    // 4: it stands behind the last data.
+    End,
+    // 5: it holds check words.
+    Check,
+    // Any other number: no block of this format.
+    Other(u8),
+}
+
+// Where nothing is said the bits are ZERO.
+impl Default for BlockType {
+    ghost is_default = { λ t. t ≡ type_of 0 };
+
+    fn default() -> BlockType {
+        BlockType::Other(0)
+    }
+}
+
+// The low three bits of the number decide.
+impl From<u8> for BlockType {
+    ghost from_gives = { λ n t. t ≡ type_of n };
+
+    fn from(number: u8) -> BlockType {
+        match number % 8 {
+            1 => BlockType::Data,
+            4 => BlockType::End,
+            5 => BlockType::Check,
+            other => BlockType::Other(other),
+        }
+    }
+}
+
+impl From<BlockType> for u8 {
+    ghost from_gives = { λ t n. n ≡ number_of t };
+
+    fn from(kind: BlockType) -> u8 {
+        match kind {
+            BlockType::Data => 1,
+            BlockType::End => 4,
+            BlockType::Check => 5,
+            BlockType::Other(number) => number,
+        }
+    }
+}
