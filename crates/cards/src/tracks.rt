@@ -12,6 +12,7 @@ use crate::rows::{get_row, put_row, row_count, strike_row};
 use crate::{Card, Kind, judge_call, judge_place};
 use refusal::Refusal;
 
+// Four fields and no array: a struct with an array of `&mut` slices gets no proof yet where it is handed over.
 #[derive(Drop)]
 pub struct FourTrackCard<'a> {
     first: &'a mut [u8],
@@ -44,8 +45,10 @@ impl<'a> FourTrackCard<'a> {
     ) -> FourTrackCard<'a>
         ensures memories { memories result
             ≡ first.old ∷ second.old ∷ third.old ∷ fourth.old ∷ [] }
-        ensures held { (result.first.ghost_name ≡ first.entry.ghost_name) × (result.second.ghost_name ≡ second.entry.ghost_name)
-            × (result.third.ghost_name ≡ third.entry.ghost_name) × (result.fourth.ghost_name ≡ fourth.entry.ghost_name) }
+        ensures held { (result.first.ghost_name ≡ first.entry.ghost_name)
+            × (result.second.ghost_name ≡ second.entry.ghost_name)
+            × (result.third.ghost_name ≡ third.entry.ghost_name)
+            × (result.fourth.ghost_name ≡ fourth.entry.ghost_name) }
     {
         FourTrackCard {
             first,
