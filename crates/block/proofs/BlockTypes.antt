@@ -1,6 +1,6 @@
 -- Block Types and their numbers. Assumes nothing.
 use Rattle.std.proofs.Common.{◌≡◌, ℕ, ◌%◌, refl, ap, ◌∙◌, arith}
-use Rattle.block.specs.BlockType.{number_of, type_of, NumbersKept, TypesKept}
+use Rattle.block.specs.BlockType.{type_of, NumbersKept, TypesKept}
 
 -- only the low three bits count
 pub type_low : (n : ℕ) → type_of (n % 8) ≡ type_of n

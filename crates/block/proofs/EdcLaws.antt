@@ -1,5 +1,5 @@
 -- The EDC, one word of a loop more. Assumes nothing.
-use Rattle.std.proofs.Common.{◌≡◌, ℕ, ◌+◌, ◌*◌, ◌/◌, ◌%◌, ◌<◌, ◌≤◌, List, [], ◌∷◌, length, get_or, drop, sym, refl, ap, ◌∙◌, add-zero, arith}
+use Rattle.std.proofs.Common.{◌≡◌, ℕ, ◌+◌, ◌*◌, ◌/◌, ◌%◌, ◌<◌, ◌≤◌, List, [], ◌∷◌, ◌++◌, length, get_or, sym, refl, ap, ◌∙◌, add-zero, arith}
 use Prim.Native.Nat.{suc-le-suc}
 use lib.Bits.{bit_xor, bit_or, or_shifted}
 use Rattle.block.specs.Edc.{words, turned, edc_words}
@@ -13,12 +13,13 @@ rotated w h =
     ∙ ap (λ (x : ℕ). x + w / 32768) (sym even)
 
 -- a word more
-pub edc_more : (bs : List ℕ) (e : ℕ) → 2 ≤ length bs
-    → edc_words e (words bs) ≡ edc_words (turned (bit_xor e (get_or bs 0 0 + 256 * get_or bs 1 0))) (words (drop 2 bs))
+pub edc_more : (pair bs : List ℕ) (e : ℕ) → 2 ≤ length pair → length pair ≤ 2
+    → edc_words e (words (pair ++ bs)) ≡ edc_words (turned (bit_xor e (get_or pair 0 0 + 256 * get_or pair 1 0))) (words bs)
 unfolding edc_words words
-edc_more [] e h = elim h [ ]
-edc_more (a ∷ []) e (suc-le-suc h) = elim h [ ]
-edc_more (a ∷ b ∷ bs) e h = refl
+edc_more [] bs e h l = elim h [ ]
+edc_more (a ∷ []) bs e (suc-le-suc h) l = elim h [ ]
+edc_more (a ∷ b ∷ []) bs e h l = refl
+edc_more (a ∷ b ∷ x ∷ xs) bs e h (suc-le-suc (suc-le-suc l)) = elim l [ ]
 
 -- one byte alone
 pub edc_one : (bs : List ℕ) (e : ℕ) → 1 ≤ length bs → length bs ≤ 1

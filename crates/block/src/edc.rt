@@ -9,13 +9,12 @@ const START: u16 = 0x45;
 pub fn edc_of(bytes: &[u8]) -> u16
     ensures { result ≡ edc bytes.now }
 {
+    let (pairs, last) = bytes.as_chunks::<2>();
     let mut sum = START;
-    let mut rest = bytes;
-    while let [low, high, behind @ ..] = rest {
+    for [low, high] in pairs {
         sum = take_in(sum, *low, *high);
-        rest = behind;
     }
-    match rest {
+    match last {
         [low] => take_in(sum, *low, 0),
         _ => sum,
     }

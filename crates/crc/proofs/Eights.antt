@@ -58,11 +58,3 @@ pub crc_by_tables : (xs : List ℕ) → length xs ≡ 8
     ≡ sliced (get_or xs 0 0)
     (get_or xs 1 0 ∷ get_or xs 2 0 ∷ get_or xs 3 0 ∷ get_or xs 4 0 ∷ get_or xs 5 0 ∷ get_or xs 6 0 ∷ get_or xs 7 0 ∷ [])
 crc_by_tables xs e = ap crc (eight_are xs e) ∙ crc-sliced (get_or xs 0 0) _
-
--- the first eight bytes, and then the rest
-pub more_front : (c : ℕ) (xs : List ℕ) → 8 ≤ length xs → crc_more (crc_more c (first_eight xs)) (drop 8 xs) ≡ crc_more c xs
-more_front c xs h =
-    let front : take 8 xs ≡ first_eight xs =
-    fill_by_all (λ k. get_or xs k 0) (take 8 xs) 8 0 (length-take-le 8 xs h) (λ k l. get_or-take 8 xs k 0 l) in
-    ap (λ ys. crc_more (crc_more c ys) (drop 8 xs)) (sym front) ∙ sym (more-append c (take 8 xs) (drop 8 xs))
-    ∙ ap (crc_more c) (take-append-drop 8 xs)

@@ -48,11 +48,10 @@ fn after_rest(start: u64, rest: &[u8]) -> u64
 pub fn crc64_more(start: u64, bytes: &[u8]) -> u64
     ensures { result ≡ crc_more start bytes.now }
 {
+    let (eights, rest) = bytes.as_chunks::<8>();
     let mut register = start;
-    let mut rest = bytes;
-    while let [b0, b1, b2, b3, b4, b5, b6, b7, behind @ ..] = rest {
-        register = after_eight(register, [*b0, *b1, *b2, *b3, *b4, *b5, *b6, *b7]);
-        rest = behind;
+    for eight in eights {
+        register = after_eight(register, *eight);
     }
     after_rest(register, rest)
 }

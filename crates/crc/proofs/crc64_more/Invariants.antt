@@ -1,10 +1,8 @@
--- The register and the bytes that are left give what the start and all the bytes give. Assumes nothing.
-use Rattle.std.proofs.Common.{◌≡◌, length}
+-- The register and the chunks that are left give what the start and all the bytes give. Assumes nothing.
+use Rattle.std.proofs.Common.{◌≡◌, ◌++◌, drop}
+use Rattle.bits.proofs.Chunks.{joined}
 use Rattle.crc.specs.Crc.{crc_more}
 use Rattle.crc.proofs.crc64_more.Given as goal
 
-abbrev pub invariant-loop-rest : goal.invariant-loop-rest
-invariant-loop-rest l = crc_more l.register l.rest ≡ crc_more l.start l.bytes
-
-abbrev pub decreases-loop-rest : goal.decreases-loop-rest
-decreases-loop-rest l = length l.rest
+abbrev pub invariant-loop-eight : goal.invariant-loop-eight
+invariant-loop-eight l = crc_more l.register (joined (drop l.eight-index l.eights) ++ l.rest) ≡ crc_more l.start l.bytes
