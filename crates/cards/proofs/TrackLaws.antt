@@ -1,17 +1,17 @@
 -- Laws of places that are dealt out to four memories. Assumes nothing.
-use Rattle.std.proofs.Common.{◌≡◌, ℕ, ◌*◌, ◌/◌, ◌%◌, ◌<◌, ◌≢◌, List, [], map, length, set, sym, refl, ap, ◌∙◌, ⊎_elim, arith}
+use Rattle.std.proofs.Common.{◌≡◌, ℕ, ◌*◌, ◌/◌, ◌%◌, ◌<◌, ◌≢◌, List, [], map, length, set, Ok, sym, refl, ap, ◌∙◌, subst, ⊎_elim, arith}
 use Rattle.std.specs.List.{range_with_len}
 use Rattle.std.proofs.lemmas.List.{get_or-set_same, get_or-set_other}
 use Rattle.std.proofs.lemmas.List.FromFn.{length-map-range_with_len, get_or-map-range_with_len}
 use Rattle.std.proofs.lemmas.Bool.{cases_eq}
 use Rattle.cards.specs.Content.{Content, block, lost, content_at}
 use Rattle.cards.specs.Calls.{judged, judged_place, if_granted, put_contents, strike_contents}
-use Rattle.cards.specs.Rows.{row_count, row_at, row_len, stored, struck}
+use Rattle.cards.specs.Rows.{row_count, row_at, row_len, rows, stored, struck}
 use Rattle.cards.specs.Tracks.{memory_of, shortest, dealt_at, dealt, on_track, put_memories, strike_memories}
 use Rattle.cards.specs.Whole.{shortest-le}
-use Rattle.cards.proofs.AnswerLaws.{by_answer, judged-length, judged_within, judged_place_lem}
+use Rattle.cards.proofs.AnswerLaws.{by_answer, judged-length, judged_within, judged_ok, judged_place_lem, judged_place_ok}
 use Rattle.cards.proofs.CountedLaws.{counted-set}
-use Rattle.cards.proofs.RowLaws.{Changes, stored_changes, struck_changes}
+use Rattle.cards.proofs.RowLaws.{Changes, length-rows, content_at-rows, stored_changes, struck_changes}
 
 pub length-dealt : (ms : List (List ℕ)) → length (dealt ms) ≡ 4 * shortest ms
 unfolding dealt
@@ -23,6 +23,29 @@ content_at-dealt ms i h = get_or-map-range_with_len (dealt_at ms) 0 (4 * shortes
 
 pub row_within : (ms : List (List ℕ)) (p : ℕ) → p < 4 * shortest ms → p / 4 < row_count (memory_of ms (p % 4))
 row_within ms p h = let s = shortest-le ms (p % 4) (omega arith) in omega arith
+
+-- what a call for a place answers is what it answers for the place's row on its track
+module _ (ms : List (List ℕ)) (p : ℕ) where
+  within : p < length (dealt ms) → p < 4 * shortest ms
+  within l = subst (λ z. p < z) (length-dealt ms) l
+
+  row_there : p < length (dealt ms) → p / 4 < length (rows (memory_of ms (p % 4)))
+  row_there l = rw (length-rows (memory_of ms (p % 4))) (row_within ms p (within l))
+
+  pub judged_on_track : (n : ℕ) → judged n (length (dealt ms)) p ≡ Ok tt
+      → judged n (length (rows (memory_of ms (p % 4)))) (p / 4) ≡ Ok tt
+  judged_on_track n g =
+      judged_ok n (length (rows (memory_of ms (p % 4)))) (p / 4) (judged-length n (length (dealt ms)) p g)
+      (row_there (judged_within n (length (dealt ms)) p g))
+
+  pub judged_place_on_track : judged_place (length (dealt ms)) p ≡ Ok tt
+      → judged_place (length (rows (memory_of ms (p % 4)))) (p / 4) ≡ Ok tt
+  judged_place_on_track g =
+      judged_place_ok (length (rows (memory_of ms (p % 4)))) (p / 4) (row_there (judged_place_lem (length (dealt ms)) p g))
+
+  pub content_on_track : p < length (dealt ms) → content_at (rows (memory_of ms (p % 4))) (p / 4) ≡ content_at (dealt ms) p
+  content_on_track l =
+      content_at-rows (memory_of ms (p % 4)) (p / 4) (row_within ms p (within l)) ∙ sym (content_at-dealt ms p (within l))
 
 -- the memory of place p changes in the row of p alone
 module _ (ms : List (List ℕ)) (four : length ms ≡ 4) (p : ℕ) (l : p < 4 * shortest ms) (after : List ℕ) (x : Content)

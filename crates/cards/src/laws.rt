@@ -2,15 +2,11 @@
 ghost use Rattle.cards.specs.Laws.{ChangesOnePlace, KeepsTheRest};
 
 // On any card: the law of the places.
-pub fn calls_stand() -> u8
+pub fn calls_stand()
     ensures { ChangesOnePlace }
-{
-    0
-}
+{}
 
 // In a memory: the law of the bytes.
-pub fn memories_stand() -> u8
+pub fn memories_stand()
     ensures { KeepsTheRest }
-{
-    0
-}
+{}

@@ -13,12 +13,10 @@ ghost use Rattle.cards.specs.Calls.{judged, judged_place};
 ghost use Rattle.cards.specs.Calls.{get_answer, get_buffer, put_answer, put_contents, strike_answer, strike_contents};
 
 pub use laws::{calls_stand, memories_stand};
-use refusal::Refusal;
+pub use refusal::BLOCK_LEN;
+use refusal::{Refusal, check_length};
 pub use strip::StripCard;
 pub use tracks::FourTrackCard;
-
-// The bytes of a block.
-pub const BLOCK_LEN: usize = 8256;
 
 // What a place holds, without the block's bytes.
 #[derive(Clone, Copy, PartialEq, Eq, Debug)]
@@ -75,8 +73,6 @@ pub fn judge_place(place: usize, places: usize) -> Result<(), Refusal>
 pub fn judge_call(len: usize, place: usize, places: usize) -> Result<(), Refusal>
     ensures { told result ≡ judged len places place }
 {
-    if len != BLOCK_LEN {
-        return Err(Refusal::WrongLength(len));
-    }
+    check_length(len, BLOCK_LEN)?;
     judge_place(place, places)
 }

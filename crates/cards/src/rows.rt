@@ -1,21 +1,22 @@
-// Rows of a memory: a mark of two bytes, and then a block.
-ghost use Rattle.std.specs.Prelude.{◌≡◌, ◌+◌, ◌/◌, ◌<◌, ◌≤◌, length};
-ghost use Rattle.cards.specs.Content.{block_len, bytes_of};
-ghost use Rattle.cards.specs.Calls.{kind_of};
-ghost use Rattle.cards.specs.Rows.{row_len, mark_kind, row_at, row_count, laid, stored, struck};
+// A memory as rows: each a mark of two bytes, and then a block.
+ghost use Rattle.std.specs.Prelude.{◌≡◌, length};
+ghost use Rattle.refusal.specs.Tells.{told};
+ghost use Rattle.cards.specs.Calls.{get_answer, get_buffer, put_answer, strike_answer};
+ghost use Rattle.cards.specs.Rows.{mark_kind, row_count, rows, put_memory, strike_memory};
 
-use crate::{BLOCK_LEN, Kind};
+use crate::{BLOCK_LEN, Kind, judge_call, judge_place};
+use refusal::Refusal;
 
 // The bytes of a mark, and those of a row.
 const MARK_LEN: usize = 2;
 
 const ROW_LEN: usize = MARK_LEN + BLOCK_LEN;
 
-// How many whole rows a memory of so many bytes has.
-pub fn row_count(len: usize) -> usize
-    ensures { result ≡ len / row_len }
+// How many whole rows a memory has.
+pub fn row_count(mem: &[u8]) -> usize
+    ensures { result ≡ row_count mem.now }
 {
-    len / ROW_LEN
+    mem.len() / ROW_LEN
 }
 
 // What a mark means.
@@ -31,44 +32,39 @@ fn read_mark(mark: &[u8]) -> Kind
 }
 
 // Answers what a row holds, and copies its block, or zeros.
-pub fn read_row(mem: &[u8], row: usize, buf: &mut [u8]) -> Kind
-    requires within { row < row_count mem.now }
-    requires sized { length buf.old ≡ block_len }
-    ensures kind { result ≡ kind_of (row_at mem.now row) }
-    ensures buffer { buf.new ≡ bytes_of (row_at mem.now row) }
+pub fn get_row(mem: &[u8], row: usize, buf: &mut [u8]) -> Result<Kind, Refusal>
+    ensures answer { told result ≡ get_answer (rows mem.now) row (length buf.old) }
+    ensures buffer { buf.new ≡ get_buffer (rows mem.now) row buf.old }
 {
+    judge_call(buf.len(), row, row_count(mem))?;
     let at = row * ROW_LEN;
     let kind = read_mark(&mem[at..at + MARK_LEN]);
     match kind {
         Kind::Block => buf.copy_from_slice(&mem[at + MARK_LEN..at + ROW_LEN]),
         Kind::Blank | Kind::Lost => buf.fill(0),
     }
-    kind
-}
-
-// Writes bytes over a part of a memory.
-fn lay(mem: &mut [u8], at: usize, bytes: &[u8])
-    requires { at + length bytes.now ≤ length mem.old }
-    ensures { mem.new ≡ laid mem.old at bytes.now }
-{
-    mem[at..at + bytes.len()].copy_from_slice(bytes);
+    Ok(kind)
 }
 
 // Writes a block to a row, behind the mark that says so.
-pub fn write_row(mem: &mut [u8], row: usize, block: &[u8])
-    requires within { row < row_count mem.old }
-    requires sized { length block.now ≡ block_len }
-    ensures { mem.new ≡ stored mem.old row block.now }
+pub fn put_row(mem: &mut [u8], row: usize, block: &[u8]) -> Result<(), Refusal>
+    ensures answer { told result ≡ put_answer (rows mem.old) row (length block.now) }
+    ensures memory { mem.new ≡ put_memory mem.old row block.now }
 {
+    judge_call(block.len(), row, row_count(mem))?;
     let at = row * ROW_LEN;
-    lay(mem, at, b"\xD1\x05");
-    lay(mem, at + MARK_LEN, block);
+    mem[at..at + MARK_LEN].copy_from_slice(b"\xD1\x05");
+    mem[at + MARK_LEN..at + ROW_LEN].copy_from_slice(block);
+    Ok(())
 }
 
 // Marks a row as lost, and leaves its block bytes.
-pub fn strike_row(mem: &mut [u8], row: usize)
-    requires { row < row_count mem.old }
-    ensures { mem.new ≡ struck mem.old row }
+pub fn strike_row(mem: &mut [u8], row: usize) -> Result<(), Refusal>
+    ensures answer { told result ≡ strike_answer (rows mem.old) row }
+    ensures memory { mem.new ≡ strike_memory mem.old row }
 {
-    lay(mem, row * ROW_LEN, b"\xEE\xEE");
+    judge_place(row, row_count(mem))?;
+    let at = row * ROW_LEN;
+    mem[at..at + MARK_LEN].copy_from_slice(b"\xEE\xEE");
+    Ok(())
 }

@@ -5,8 +5,8 @@ ghost use Rattle.cards.specs.Calls.{get_answer, get_buffer, put_answer, put_cont
 ghost use Rattle.cards.specs.Rows.{rows, put_memory, strike_memory};
 ghost use Rattle.cards.specs.Whole.{rows_whole};
 
-use crate::rows::{read_row, row_count, strike_row, write_row};
-use crate::{Card, Kind, judge_call, judge_place};
+use crate::rows::{get_row, put_row, row_count, strike_row};
+use crate::{Card, Kind};
 use refusal::Refusal;
 
 #[derive(Drop)]
@@ -30,12 +30,11 @@ impl Card for StripCard<'_> {
     ghost whole = { λ s. rows_whole s.mem.now };
 
     fn places(&self) -> usize {
-        row_count(self.mem.len())
+        row_count(self.mem)
     }
 
     fn get(&self, place: usize, buf: &mut [u8]) -> Result<Kind, Refusal> {
-        judge_call(buf.len(), place, row_count(self.mem.len()))?;
-        Ok(read_row(self.mem, place, buf))
+        get_row(self.mem, place, buf)
     }
 
     fn put(&mut self, place: usize, block: &[u8]) -> Result<(), Refusal>
@@ -47,9 +46,7 @@ impl Card for StripCard<'_> {
             ≡ put_memory self.old.mem.now place block.now }
         ensures held { self.new.mem.ghost_name ≡ self.old.mem.ghost_name }
     {
-        judge_call(block.len(), place, row_count(self.mem.len()))?;
-        write_row(self.mem, place, block);
-        Ok(())
+        put_row(self.mem, place, block)
     }
 
     fn strike(&mut self, place: usize) -> Result<(), Refusal>
@@ -59,8 +56,6 @@ impl Card for StripCard<'_> {
         ensures memory { self.new.mem.now ≡ strike_memory self.old.mem.now place }
         ensures held { self.new.mem.ghost_name ≡ self.old.mem.ghost_name }
     {
-        judge_place(place, row_count(self.mem.len()))?;
-        strike_row(self.mem, place);
-        Ok(())
+        strike_row(self.mem, place)
     }
 }

@@ -4,13 +4,15 @@ ghost use Rattle.refusal.specs.Tells.{told};
 ghost use Rattle.cards.specs.Calls.{get_answer, get_buffer, put_answer, put_contents, strike_answer, strike_contents};
 ghost use Rattle.cards.specs.Rows.{row_len};
 ghost use Rattle.cards.specs.Tracks.{shortest, dealt, memory_of, put_memories, strike_memories};
-ghost use Rattle.cards.specs.Memories.{memories};
+ghost use Rattle.std.specs.Fn.{FnOnceReturnsAtMut};
+ghost use Rattle.cards.specs.Memories.{HoldsTheSame, ChangesTrack, memories};
 ghost use Rattle.cards.specs.Whole.{dealt-whole};
 
-use crate::rows::{read_row, row_count, strike_row, write_row};
+use crate::rows::{get_row, put_row, row_count, strike_row};
 use crate::{Card, Kind, judge_call, judge_place};
 use refusal::Refusal;
 
+// Four fields and no array: a struct with an array of `&mut` slices gets no proof yet where it is handed over.
 #[derive(Drop)]
 pub struct FourTrackCard<'a> {
     first: &'a mut [u8],
@@ -43,8 +45,10 @@ impl<'a> FourTrackCard<'a> {
     ) -> FourTrackCard<'a>
         ensures memories { memories result
             ≡ first.old ∷ second.old ∷ third.old ∷ fourth.old ∷ [] }
-        ensures held { (result.first.ghost_name ≡ first.entry.ghost_name) × (result.second.ghost_name ≡ second.entry.ghost_name)
-            × (result.third.ghost_name ≡ third.entry.ghost_name) × (result.fourth.ghost_name ≡ fourth.entry.ghost_name) }
+        ensures held { (result.first.ghost_name ≡ first.entry.ghost_name)
+            × (result.second.ghost_name ≡ second.entry.ghost_name)
+            × (result.third.ghost_name ≡ third.entry.ghost_name)
+            × (result.fourth.ghost_name ≡ fourth.entry.ghost_name) }
     {
         FourTrackCard {
             first,
@@ -59,8 +63,8 @@ impl<'a> FourTrackCard<'a> {
         ensures least { result ≡ shortest (memories self.now) }
         ensures small { result * row_len < 2 ^ 64 }
     {
-        let front = row_count(self.first.len()).min(row_count(self.second.len()));
-        let back = row_count(self.third.len()).min(row_count(self.fourth.len()));
+        let front = row_count(self.first).min(row_count(self.second));
+        let back = row_count(self.third).min(row_count(self.fourth));
         front.min(back)
     }
 
@@ -76,6 +80,26 @@ impl<'a> FourTrackCard<'a> {
             _ => self.fourth,
         }
     }
+
+    // Makes a change in the memory of a track.
+    fn change<F: FnOnce(&mut [u8]) -> Result<(), Refusal>>(
+        &mut self,
+        track: usize,
+        f: F,
+    ) -> Result<(), Refusal>
+        requires track { track < 4 }
+        requires callable { F.IsAlwaysCallable f }
+        ensures memories { ChangesTrack (memories self.old) track (memories self.new)
+            (FnOnceReturnsAtMut F.FnOnce f (memory_of (memories self.old) track) result) }
+        ensures held { HoldsTheSame self.old self.new }
+    {
+        match track {
+            0 => f(self.first),
+            1 => f(self.second),
+            2 => f(self.third),
+            _ => f(self.fourth),
+        }
+    }
 }
 
 impl Card for FourTrackCard<'_> {
@@ -88,8 +112,8 @@ impl Card for FourTrackCard<'_> {
     }
 
     fn get(&self, place: usize, buf: &mut [u8]) -> Result<Kind, Refusal> {
-        judge_call(buf.len(), place, 4 * self.rows())?;
-        Ok(read_row(self.memory(track_of(place)), row_of(place), buf))
+        judge_call(buf.len(), place, self.places())?;
+        get_row(self.memory(track_of(place)), row_of(place), buf)
     }
 
     fn put(&mut self, place: usize, block: &[u8]) -> Result<(), Refusal>
@@ -99,20 +123,11 @@ impl Card for FourTrackCard<'_> {
             ≡ put_contents (dealt (memories self.old)) place block.now }
         ensures memories { memories self.new
             ≡ put_memories (memories self.old) place block.now }
-        ensures held { (self.new.first.ghost_name ≡ self.old.first.ghost_name)
-            × (self.new.second.ghost_name ≡ self.old.second.ghost_name)
-            × (self.new.third.ghost_name ≡ self.old.third.ghost_name)
-            × (self.new.fourth.ghost_name ≡ self.old.fourth.ghost_name) }
+        ensures held { HoldsTheSame self.old self.new }
     {
-        judge_call(block.len(), place, 4 * self.rows())?;
+        judge_call(block.len(), place, self.places())?;
         let row = row_of(place);
-        match track_of(place) {
-            0 => write_row(self.first, row, block),
-            1 => write_row(self.second, row, block),
-            2 => write_row(self.third, row, block),
-            _ => write_row(self.fourth, row, block),
-        }
-        Ok(())
+        self.change(track_of(place), |mem| put_row(mem, row, block))
     }
 
     fn strike(&mut self, place: usize) -> Result<(), Refusal>
@@ -120,19 +135,10 @@ impl Card for FourTrackCard<'_> {
         ensures card { dealt (memories self.new)
             ≡ strike_contents (dealt (memories self.old)) place }
         ensures memories { memories self.new ≡ strike_memories (memories self.old) place }
-        ensures held { (self.new.first.ghost_name ≡ self.old.first.ghost_name)
-            × (self.new.second.ghost_name ≡ self.old.second.ghost_name)
-            × (self.new.third.ghost_name ≡ self.old.third.ghost_name)
-            × (self.new.fourth.ghost_name ≡ self.old.fourth.ghost_name) }
+        ensures held { HoldsTheSame self.old self.new }
     {
-        judge_place(place, 4 * self.rows())?;
+        judge_place(place, self.places())?;
         let row = row_of(place);
-        match track_of(place) {
-            0 => strike_row(self.first, row),
-            1 => strike_row(self.second, row),
-            2 => strike_row(self.third, row),
-            _ => strike_row(self.fourth, row),
-        }
-        Ok(())
+        self.change(track_of(place), |mem| strike_row(mem, row))
     }
 }

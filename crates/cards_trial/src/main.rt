@@ -2,21 +2,20 @@
 #![tactic(auto)]
 
 mod above;
-mod comparing;
 mod lent;
+mod memories;
 mod model;
 mod script;
-mod trials;
+mod trial;
 
 use std::io;
 
 fn main(rt: HostRuntime) -> io::Result<()> {
-    trials::strip(&rt)?;
-    trials::no_rows(&rt)?;
-    trials::four_track(&rt)?;
-    trials::memory(&rt)?;
-    above::skip(&rt)?;
-    above::skip_on_skip(&rt)?;
+    memories::strip(&rt)?;
+    memories::no_rows(&rt)?;
+    memories::four_track(&rt)?;
+    memories::memory(&rt)?;
+    above::skips(&rt)?;
     above::lists(&rt)?;
     above::runs(&rt)
 }

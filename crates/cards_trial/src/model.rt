@@ -1,21 +1,19 @@
 // The plain model of a card: what each place holds, a block by the seed that its bytes are made from.
 use cards::{BLOCK_LEN, Kind};
 use refusal::Refusal;
+use std::alloc::{AllocError, Global};
+use std::array;
 
-// The most places that a model has.
-pub const MOST: usize = 16;
-
-#[derive(Clone, Copy)]
+#[derive(Clone, Copy, Debug, PartialEq, Eq)]
 pub enum Held {
     Blank,
     Lost,
     Block(u8),
 }
 
-#[derive(Clone, Copy)]
+#[derive(Drop)]
 pub struct Model {
-    held: [Held; 16],
-    places: usize,
+    held: Vec<Held>,
 }
 
 // The byte at an index of the block that a seed makes.
@@ -23,58 +21,57 @@ pub fn block_byte(seed: u8, index: usize) -> u8 {
     seed.wrapping_add((index % 251) as u8)
 }
 
-// Makes the block of a seed.
-pub fn fill_block(seed: u8, bytes: &mut [u8]) {
-    for i in 0..bytes.len() {
-        bytes[i] = block_byte(seed, i);
-    }
-}
-
-// Whether bytes are the block of a seed.
-pub fn is_block(seed: u8, bytes: &[u8]) -> bool {
-    for i in 0..bytes.len() {
-        if bytes[i] != block_byte(seed, i) {
-            return false;
-        }
-    }
-    true
+// The block of a seed.
+pub fn block(seed: u8) -> [u8; BLOCK_LEN] {
+    array::from_fn(|index| block_byte(seed, index))
 }
 
 // Whether all bytes have one value.
 pub fn all_are(value: u8, bytes: &[u8]) -> bool {
-    for b in bytes {
-        if *b != value {
-            return false;
+    bytes.iter().all(|byte| *byte == value)
+}
+
+impl Held {
+    // What a get copies of the content.
+    pub fn bytes(self) -> [u8; BLOCK_LEN] {
+        match self {
+            Held::Blank | Held::Lost => [0; BLOCK_LEN],
+            Held::Block(seed) => block(seed),
         }
     }
-    true
+}
+
+// What a get answers of a content.
+impl From<Held> for Kind {
+    fn from(held: Held) -> Kind {
+        match held {
+            Held::Blank => Kind::Blank,
+            Held::Lost => Kind::Lost,
+            Held::Block(_) => Kind::Block,
+        }
+    }
 }
 
 impl Model {
-    // A model of so many blank places.
-    pub fn new(places: usize) -> Model {
-        Model {
-            held: [Held::Blank; 16],
-            places: places.min(MOST),
-        }
+    // A model of places that hold this.
+    pub fn new(alloc: Global, held: &[Held]) -> Result<Model, AllocError> {
+        Ok(Model {
+            held: held.to_vec(alloc)?,
+        })
     }
 
     pub fn places(&self) -> usize {
-        self.places
+        self.held.len()
     }
 
-    // What a place holds; lost where there is none.
-    pub fn at(&self, place: usize) -> Held {
-        if place < self.places && place < self.held.len() {
-            self.held[place]
-        } else {
-            Held::Lost
-        }
+    // What a place holds, if there is one.
+    pub fn at(&self, place: usize) -> Option<Held> {
+        self.held.get(place).copied()
     }
 
     pub fn hold(&mut self, place: usize, held: Held) {
-        if place < self.places && place < self.held.len() {
-            self.held[place] = held;
+        if let Some(at) = self.held.get_mut(place) {
+            *at = held;
         }
     }
 
@@ -83,39 +80,20 @@ impl Model {
         if len != BLOCK_LEN {
             return Err(Refusal::WrongLength(len));
         }
-        if place >= self.places {
+        if place >= self.places() {
             return Err(Refusal::NoSuchPlace(place));
         }
         Ok(())
     }
 
     // The model without the listed places.
-    pub fn without(&self, list: &[usize]) -> Model {
-        let mut left = Model::new(0);
-        for place in 0..self.places {
-            if !list.contains(&place) && left.places < MOST {
-                let next = left.places;
-                left.places = next.wrapping_add(1);
-                left.hold(next, self.at(place));
+    pub fn without(&self, alloc: Global, list: &[usize]) -> Result<Model, AllocError> {
+        let mut held = Vec::new(alloc);
+        for (place, content) in self.held.iter().enumerate() {
+            if !list.contains(&place) {
+                held.push(*content)?;
             }
         }
-        left
-    }
-}
-
-// What a get answers of a content.
-pub fn kind_of(held: Held) -> Kind {
-    match held {
-        Held::Blank => Kind::Blank,
-        Held::Lost => Kind::Lost,
-        Held::Block(_) => Kind::Block,
-    }
-}
-
-// Whether a buffer holds what a get copies of a content.
-pub fn is_copied(held: Held, buf: &[u8]) -> bool {
-    match held {
-        Held::Blank | Held::Lost => all_are(0, buf),
-        Held::Block(seed) => is_block(seed, buf),
+        Ok(Model { held })
     }
 }

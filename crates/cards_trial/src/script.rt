@@ -1,157 +1,62 @@
-// The script of calls: what each step does to a card and to its model.
-use crate::comparing::{Tally, UNTOUCHED, compare_all, compare_place};
-use crate::model::{Held, Model, all_are, block_byte, fill_block};
-use cards::{BLOCK_LEN, Card, Kind};
+// The script of calls, and how a step and its answer are printed.
+use cards::Kind;
 use refusal::Refusal;
-use std::io;
+use std::{fmt, io};
 
+// A step is data and no closure, since it is both done and printed.
 #[derive(Clone, Copy)]
 pub enum Step {
-    Put(usize, u8),
-    Strike(usize),
-    Get(usize),
+    Put { place: usize, seed: u8 },
+    Strike { place: usize },
+    Get { place: usize },
     // a put and a get with a buffer of another length
-    Misput(usize, usize),
-    Misget(usize, usize),
+    Misput { place: usize, len: usize },
+    Misget { place: usize, len: usize },
 }
 
-fn put<C: Card>(card: &mut C, model: &mut Model, place: usize, seed: u8) -> Result<(), Refusal> {
-    let mut block = [0; 8256];
-    fill_block(seed, &mut block);
-    if model.judge(place, BLOCK_LEN) == Ok(()) {
-        model.hold(place, Held::Block(seed));
-    }
-    card.put(place, &block)
-}
-
-// Puts another block at each place.
-pub fn put_each<C: Card>(card: &mut C, model: &mut Model) {
-    for place in 0..model.places() {
-        let _ = put(card, model, place, block_byte(100, place));
-    }
-}
-
-fn strike<C: Card>(card: &mut C, model: &mut Model, place: usize) -> Result<(), Refusal> {
-    model.hold(place, Held::Lost);
-    card.strike(place)
-}
-
-fn get<C: Card>(card: &C, place: usize) -> Result<Kind, Refusal> {
-    let mut buf = [UNTOUCHED; 8256];
-    card.get(place, &mut buf)
-}
-
-fn get_into<C: Card>(
-    card: &C,
-    place: usize,
-    buf: &mut [u8],
-    tally: &mut Tally,
-) -> Result<Kind, Refusal> {
-    let answer = card.get(place, buf);
-    tally.compare(answer == Err(Refusal::WrongLength(buf.len())));
-    tally.compare(all_are(UNTOUCHED, buf));
-    answer
-}
-
-fn misget<C: Card>(card: &C, place: usize, len: usize, tally: &mut Tally) -> Result<Kind, Refusal> {
-    let mut buf = [UNTOUCHED; 8300];
-    get_into(card, place, &mut buf[0..len.min(8300)], tally)
-}
-
-fn misput<C: Card>(card: &mut C, place: usize, len: usize) -> Result<(), Refusal> {
-    let buf = [UNTOUCHED; 8300];
-    card.put(place, &buf[0..len.min(8300)])
-}
-
-fn say_done(rt: &HostRuntime, answer: Result<(), Refusal>) -> io::Result<()> {
-    match answer {
-        Ok(()) => println!(rt; "granted"),
-        Err(e) => println!(rt; "{e}"),
-    }
-}
-
-fn say_kind(rt: &HostRuntime, answer: Result<Kind, Refusal>) -> io::Result<()> {
-    match answer {
-        Ok(kind) => println!(rt; "{kind:?}"),
-        Err(e) => println!(rt; "{e}"),
-    }
-}
-
-// Does a step on the card and on the model, and prints it.
-fn act<C: Card>(
-    rt: &HostRuntime,
-    card: &mut C,
-    model: &mut Model,
-    step: Step,
-    tally: &mut Tally,
-) -> io::Result<()> {
-    match step {
-        Step::Put(place, seed) => {
-            let expected = model.judge(place, BLOCK_LEN);
-            let answer = put(card, model, place, seed);
-            tally.compare(answer == expected);
-            print!(rt; "  put {place} seed {seed}: ")?;
-            say_done(rt, answer)
-        }
-        Step::Strike(place) => {
-            let expected = model.judge(place, BLOCK_LEN);
-            let answer = strike(card, model, place);
-            tally.compare(answer == expected);
-            print!(rt; "  strike {place}: ")?;
-            say_done(rt, answer)
-        }
-        Step::Get(place) => {
-            compare_place(card, model, place, tally);
-            print!(rt; "  get {place}: ")?;
-            say_kind(rt, get(card, place))
-        }
-        Step::Misput(place, len) => {
-            let answer = misput(card, place, len);
-            tally.compare(answer == model.judge(place, len));
-            print!(rt; "  put {place} of {len} bytes: ")?;
-            say_done(rt, answer)
-        }
-        Step::Misget(place, len) => {
-            print!(rt; "  get {place} of {len} bytes: ")?;
-            say_kind(rt, misget(card, place, len, tally))
+impl fmt::Display for Step {
+    fn fmt<W: fmt::Write>(&self, f: &mut fmt::Formatter<W>) -> fmt::Result {
+        match *self {
+            Step::Put { place, seed } => write!(f, "put {place} seed {seed}"),
+            Step::Strike { place } => write!(f, "strike {place}"),
+            Step::Get { place } => write!(f, "get {place}"),
+            Step::Misput { place, len } => write!(f, "put {place} of {len} bytes"),
+            Step::Misget { place, len } => write!(f, "get {place} of {len} bytes"),
         }
     }
 }
 
 // The script, the same for each card.
-const SCRIPT: [Step; 16] = [
-    Step::Get(0),
-    Step::Get(1),
-    Step::Get(2),
-    Step::Put(0, 11),
-    Step::Get(0),
-    Step::Put(2, 22),
-    Step::Strike(0),
-    Step::Get(0),
-    Step::Put(0, 33),
-    Step::Put(1, 44),
-    Step::Strike(2),
-    Step::Put(7, 55),
-    Step::Strike(4),
-    Step::Get(99),
-    Step::Misput(99, 8255),
-    Step::Misget(1, 8257),
+pub const SCRIPT: [Step; 16] = [
+    Step::Get { place: 0 },
+    Step::Get { place: 1 },
+    Step::Get { place: 2 },
+    Step::Put { place: 0, seed: 11 },
+    Step::Get { place: 0 },
+    Step::Put { place: 2, seed: 22 },
+    Step::Strike { place: 0 },
+    Step::Get { place: 0 },
+    Step::Put { place: 0, seed: 33 },
+    Step::Put { place: 1, seed: 44 },
+    Step::Strike { place: 2 },
+    Step::Put { place: 7, seed: 55 },
+    Step::Strike { place: 4 },
+    Step::Get { place: 99 },
+    Step::Misput {
+        place: 99,
+        len: 8255,
+    },
+    Step::Misget {
+        place: 1,
+        len: 8257,
+    },
 ];
 
-// Runs the script on a card, and compares everything before it and after each step.
-pub fn run<C: Card>(
-    rt: &HostRuntime,
-    name: &str,
-    card: &mut C,
-    model: &mut Model,
-) -> io::Result<()> {
-    let places = card.places();
-    println!(rt; "{name}: {places} places")?;
-    let mut tally = Tally::new();
-    compare_all(card, model, &mut tally);
-    for step in SCRIPT {
-        act(rt, card, model, step, &mut tally)?;
-        compare_all(card, model, &mut tally);
+// Prints what a call answers: a kind, if it is a get.
+pub fn say(rt: &HostRuntime, answer: Result<Option<Kind>, Refusal>) -> io::Result<()> {
+    match answer {
+        Ok(Some(kind)) => println!(rt; "{kind:?}"),
+        Ok(None) => println!(rt; "granted"),
+        Err(e) => println!(rt; "{e}"),
     }
-    tally.report(rt, name)
 }

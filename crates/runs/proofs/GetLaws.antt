@@ -1,17 +1,11 @@
 -- A loop that gets the places of a run into a work area. Assumes nothing.
-use Rattle.std.proofs.Common.{◌≡◌, ℕ, zero, suc, ◌+◌, ◌*◌, ◌%◌, ◌≤◌, List, [], ◌∷◌, ◌++◌, length, drop, Ok, sym, refl, ap, ◌∙◌, add-one, arith}
+use Rattle.std.proofs.Common.{◌≡◌, ℕ, zero, suc, ◌+◌, ◌*◌, List, [], ◌++◌, length, drop, sym, refl, ap, ◌∙◌, add-one, arith}
 use borrow.Rule.Slice.PartMut.{put_mid}
-use Rattle.std.proofs.lemmas.Bool.Decides.{nat_tests}
 use Rattle.std.specs.List.{range_with_len, flat_map}
-use Rattle.std.proofs.lemmas.List.{append_assoc, append-nil, map-id, drop-drop, drop_all, length-append, take_at, drop_at, flat_map_more}
-use Rattle.std.proofs.lemmas.List.FromFn.{map-range_with_len_more}
+use Rattle.std.proofs.lemmas.List.{append_assoc, drop-drop, length-append, take_at, drop_at, flat_map_more}
 use Rattle.cards.specs.Content.{block_len, Content, content_at, bytes_of, Whole}
-use Rattle.runs.specs.Runs.{judged_blocks, run_bytes}
-
-counting_more : (n : ℕ) → range_with_len 0 (n + 1) ≡ range_with_len 0 n ++ n ∷ []
-counting_more n =
-    sym (map-id (range_with_len 0 (n + 1))) ∙ map-range_with_len_more (λ i. i) 0 n n (omega arith)
-    ∙ ap (λ z. z ++ n ∷ []) (map-id (range_with_len 0 n))
+use Rattle.runs.specs.Runs.{run_bytes}
+use Rattle.runs.proofs.BlockLaws.{counting_more}
 
 run_bytes_none : (cs : List Content) (s : ℕ) → run_bytes cs s 0 ≡ []
 unfolding run_bytes
@@ -55,12 +49,3 @@ module _ (cs : List Content) (whole : Whole cs) (s : ℕ) where
       ∙ ap (λ z. r ++ (b ++ drop z work)) q
       ∙ sym (append_assoc r b (drop ((i + 1) * block_len) work))
       ∙ ap (λ z. z ++ drop ((i + 1) * block_len) work) (sym (run_bytes_more cs s i))
-
--- at the end nothing of the work area is left
-pub run_bytes_all : (cs : List Content) (s n : ℕ) (work was : List ℕ) → length work ≤ n * block_len
-    → was ≡ run_bytes cs s n ++ drop (n * block_len) work → was ≡ run_bytes cs s n
-run_bytes_all cs s n work was h w = w ∙ ap (λ z. run_bytes cs s n ++ z) (drop_all (n * block_len) work h)
-    ∙ append-nil (run_bytes cs s n)
-
-pub blocks_granted : (m : ℕ) → judged_blocks m ≡ Ok tt → m % block_len ≡ 0
-blocks_granted m h = grind (arith, nat_tests)

@@ -26,6 +26,7 @@ pub fn get_run<C: Card>(card: &C, start: usize, work: &mut [u8]) -> Result<(), R
     ensures work { work.new ≡ run_buffer (C.contents card.now) start work.old }
 {
     judge_blocks(work.len())?;
+    // By index: over `chunks_exact_mut` nothing is known of what the parts leave in the work area.
     for i in 0..work.len() / BLOCK_LEN {
         let at = i * BLOCK_LEN;
         fetch(card, start, i, &mut work[at..at + BLOCK_LEN]);

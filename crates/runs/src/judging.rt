@@ -1,21 +1,10 @@
 // What a call for a run of places refuses: a length, and then a place.
-ghost use Rattle.std.specs.Prelude.{◌≡◌, ◌+◌, ◌*◌, ◌<◌, ◌≤◌, length};
+ghost use Rattle.std.specs.Prelude.{◌≡◌};
 ghost use Rattle.refusal.specs.Tells.{told};
-ghost use Rattle.runs.specs.Runs.{block_at, judged_block, judged_blocks, judged_run};
+ghost use Rattle.runs.specs.Runs.{judged_blocks, judged_run};
 
 use cards::BLOCK_LEN;
 use refusal::Refusal;
-
-// Refuses another length than a block's.
-pub fn judge_block(len: usize) -> Result<(), Refusal>
-    ensures { told result ≡ judged_block len }
-{
-    if len == BLOCK_LEN {
-        Ok(())
-    } else {
-        Err(Refusal::WrongLength(len))
-    }
-}
 
 // Refuses a length that is not one of whole blocks.
 pub fn judge_blocks(len: usize) -> Result<(), Refusal>
@@ -37,13 +26,4 @@ pub fn judge_run(start: usize, count: usize, places: usize) -> Result<(), Refusa
     } else {
         Err(Refusal::NoSuchPlace(start.max(places)))
     }
-}
-
-// A block of bytes in which blocks stand joined.
-pub fn block_of(bytes: &[u8], index: usize) -> &[u8]
-    requires { index * 8256 + 8256 ≤ length bytes.now }
-    ensures { result.now ≡ block_at bytes.now index }
-{
-    let at = index * BLOCK_LEN;
-    &bytes[at..at + BLOCK_LEN]
 }

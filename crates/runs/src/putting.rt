@@ -1,50 +1,24 @@
 // Putting blocks at the places of a run.
-ghost use Rattle.std.specs.Prelude.{◌≡◌, ◌+◌, ◌*◌, ◌^◌, ◌<◌, ◌≤◌, length, replicate};
-ghost use Rattle.refusal.specs.Tells.{told};
-ghost use Rattle.cards.specs.Content.{block};
-ghost use Rattle.cards.specs.Rows.{laid};
+ghost use Rattle.std.specs.Prelude.{◌≡◌, ◌+◌, ◌/◌, ◌^◌, ◌<◌, length, map, MatchResult};
+ghost use Rattle.std.specs.List.{range_with_len, FoldsTo};
+ghost use Rattle.refusal.specs.Tells.{tells, told};
+ghost use Rattle.cards.specs.Content.{block, block_len};
+ghost use Rattle.runs.specs.Turns.{PutInTurn};
 ghost use Rattle.runs.specs.Runs.{blocks, copies_answer, copies_contents, run_answer, run_contents};
 
-use crate::judging::{block_of, judge_block, judge_blocks, judge_run};
+use crate::judging::{judge_blocks, judge_run};
 use cards::{BLOCK_LEN, Card};
-use refusal::Refusal;
+use refusal::{Refusal, check_length};
 
-// Puts the same block at each place of a run that the card has.
-fn lay_copies<C: Card>(card: &mut C, start: usize, count: usize, body: &[u8])
-    requires room { start + count ≤ length (C.contents card.old) }
-    requires small { start + count < 2 ^ 64 }
-    requires sized { length body.now ≡ 8256 }
-    ensures { C.contents card.new
-        ≡ laid (C.contents card.old) start (replicate count (block body.now)) }
+// Puts a block at a place in each of so many turns. The closure gives the place and the block of a turn.
+fn put_in_turns<'b, C: Card, F: Fn(usize) -> (usize, &'b [u8])>(card: &mut C, turns: usize, turn: F)
+    requires { (i : _) → i < turns → F.pre turn i }
+    ensures { FoldsTo (PutInTurn (F.post turn)) (C.contents card.old) (range_with_len 0 turns)
+        (C.contents card.new) }
 {
-    for i in 0..count {
-        let _ = card.put(start + i, body);
-    }
-}
-
-// Puts joined blocks at the places of a run that the card has, the first place first.
-fn lay_up<C: Card>(card: &mut C, start: usize, count: usize, bytes: &[u8])
-    requires room { start + count ≤ length (C.contents card.old) }
-    requires small { start + count < 2 ^ 64 }
-    requires sized { count * 8256 ≤ length bytes.now }
-    ensures { C.contents card.new
-        ≡ laid (C.contents card.old) start (blocks bytes.now count) }
-{
-    for i in 0..count {
-        let _ = card.put(start + i, block_of(bytes, i));
-    }
-}
-
-// The same, the top place first.
-fn lay_down<C: Card>(card: &mut C, start: usize, count: usize, bytes: &[u8])
-    requires room { start + count ≤ length (C.contents card.old) }
-    requires small { start + count < 2 ^ 64 }
-    requires sized { count * 8256 ≤ length bytes.now }
-    ensures { C.contents card.new
-        ≡ laid (C.contents card.old) start (blocks bytes.now count) }
-{
-    for i in (0..count).rev() {
-        let _ = card.put(start + i, block_of(bytes, i));
+    for i in 0..turns {
+        let (place, block) = turn(i);
+        let _ = card.put(place, block);
     }
 }
 
@@ -60,10 +34,28 @@ pub fn put_copies<C: Card>(
     ensures card { C.contents card.new
         ≡ copies_contents (C.contents card.old) start count body.now }
 {
-    judge_block(body.len())?;
+    check_length(body.len(), BLOCK_LEN)?;
     judge_run(start, count, card.places())?;
-    lay_copies(card, start, count, body);
+    put_in_turns(card, count, |i| (start + i, body));
     Ok(())
+}
+
+// The blocks that stand joined in some bytes, if the card has a place for each of them from the start on.
+fn blocks_of<'b, C: Card>(
+    card: &C,
+    start: usize,
+    bytes: &'b [u8],
+) -> Result<&'b [[u8; BLOCK_LEN]], Refusal>
+    ensures { MatchResult result
+        (λ found. (run_answer (length (C.contents card.now)) start (length bytes.now) ≡ Ok tt)
+        × (map block found.now ≡ blocks bytes.now (length bytes.now / block_len))
+        × (start + length found.now < 2 ^ 64))
+        (λ e. run_answer (length (C.contents card.now)) start (length bytes.now) ≡ Err (tells e)) }
+{
+    judge_blocks(bytes.len())?;
+    let (blocks, _) = bytes.as_chunks();
+    judge_run(start, blocks.len(), card.places())?;
+    Ok(blocks)
 }
 
 // Puts joined blocks at the places from the start on, or none of them.
@@ -73,10 +65,8 @@ pub fn put_run<C: Card>(card: &mut C, start: usize, bytes: &[u8]) -> Result<(), 
     ensures card { C.contents card.new
         ≡ run_contents (C.contents card.old) start bytes.now }
 {
-    judge_blocks(bytes.len())?;
-    let count = bytes.len() / BLOCK_LEN;
-    judge_run(start, count, card.places())?;
-    lay_up(card, start, count, bytes);
+    let blocks = blocks_of(card, start, bytes)?;
+    put_in_turns(card, blocks.len(), |i| (start + i, &blocks[i]));
     Ok(())
 }
 
@@ -87,9 +77,11 @@ pub fn put_run_down<C: Card>(card: &mut C, start: usize, bytes: &[u8]) -> Result
     ensures card { C.contents card.new
         ≡ run_contents (C.contents card.old) start bytes.now }
 {
-    judge_blocks(bytes.len())?;
-    let count = bytes.len() / BLOCK_LEN;
-    judge_run(start, count, card.places())?;
-    lay_down(card, start, count, bytes);
+    let blocks = blocks_of(card, start, bytes)?;
+    let count = blocks.len();
+    put_in_turns(card, count, |i| {
+        let down = count - 1 - i;
+        (start + down, &blocks[down])
+    });
     Ok(())
 }

@@ -1,4 +1,4 @@
 pub mod ListLaws
 pub mod SkipLaws
 pub mod SparedLaws
-pub mod TableLaws
+pub mod FoundLaws

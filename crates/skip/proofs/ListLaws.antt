@@ -12,6 +12,22 @@ pub judged-step : (P : ℕ) (bad : List ℕ) (i n : ℕ) → i < n
     (judged_at P bad (range_with_len (i + 1) (n - (i + 1)))) (Err (7, i ∷ []))
 judged-step P bad i n h = let e : n - i ≡ suc (n - (i + 1)) = omega arith in ap (λ z. judged_at P bad (range_with_len i z)) e
 
+-- the least place that entry i may name
+abbrev pub least_at : List ℕ → ℕ → ℕ
+least_at bad zero = 0
+least_at bad (suc i) = get_or bad i 0 + 1
+
+pub least_more : (bad : List ℕ) (i : ℕ) → least_at bad (i + 1) ≡ get_or bad i 0 + 1
+least_more bad i = let e : i + 1 ≡ suc i = omega arith in ap (least_at bad) e
+
+pub good_from_least : (P : ℕ) (bad : List ℕ) (i : ℕ) → least_at bad i ≤ get_or bad i 0 → get_or bad i 0 < P
+    → good_entry P bad i ≡ true
+good_from_least P bad zero l h = grind (arith, nat_tests)
+good_from_least P bad (suc i) l h =
+    let e : suc i - 1 ≡ i = omega arith in
+    let k = ap (λ z. get_or bad z 0) e in
+    grind (arith, nat_tests)
+
 granted_first : (b : Bool) (more : Answer (Unit {0})) (e : ℕ × List ℕ) → cond b more (Err e) ≡ Ok tt
     → (b ≡ true) × (more ≡ Ok tt)
 granted_first true more e h = (refl, h)

@@ -1,7 +1,7 @@
 -- Laws of the calls of a skip card: a change of one place below is a change of one place. Assumes nothing.
-use Rattle.std.proofs.Common.{◌≡◌, ℕ, ◌+◌, ◌-◌, ◌<◌, ◌≤◌, leb, ◌≢◌, List, [], ◌∷◌, map, length, get_or, drop, set, sym, refl, ap, ◌∙◌, ⊎_elim, arith}
+use Rattle.std.proofs.Common.{◌≡◌, ℕ, ◌+◌, ◌-◌, ◌<◌, ◌≤◌, leb, ◌≢◌, List, [], ◌∷◌, map, length, set, sym, refl, ap, ◌∙◌, ⊎_elim, arith}
 use Rattle.std.specs.List.{range_with_len}
-use Rattle.std.proofs.lemmas.List.{at_drop_more, length-set, get_or-set_same, get_or-set_other}
+use Rattle.std.proofs.lemmas.List.{length-set, get_or-set_same, get_or-set_other}
 use Rattle.std.proofs.lemmas.List.FromFn.{length-map-range_with_len, get_or-map-range_with_len}
 use Rattle.std.proofs.lemmas.Bool.{cases_lt, cond_both}
 use Rattle.std.proofs.lemmas.Bool.Decides.{nat_tests}
@@ -29,11 +29,6 @@ unlisted-apart : (bad : List ℕ) (i j : ℕ) → i ≢ j → unlisted bad i ≢
 unlisted-apart bad i j ne e =
     ⊎_elim (λ (h : i < j). let k = unlisted_strict bad i j h in omega arith)
     (λ h. let k = unlisted_strict bad j i (omega arith) in omega arith) (cases_lt i j)
-
--- one bad place more
-pub unlisted_more : (bad : List ℕ) (k p q d : ℕ) → k < length bad → q ≡ stepped_over (get_or bad k d) p
-    → unlisted (drop (k + 1) bad) q ≡ unlisted (drop k bad) p
-unlisted_more bad k p q d h e = ap (unlisted (drop (k + 1) bad)) e ∙ sym (at_drop_more (λ xs. unlisted xs p) bad k d h)
 
 pub length-skipped : (bad : List ℕ) (cs : List Content) → length (skipped bad cs) ≡ length cs - length bad
 unfolding skipped

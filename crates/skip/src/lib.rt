@@ -2,8 +2,9 @@
 #![tactic(auto)]
 
 mod list;
+mod table;
 
-ghost use Rattle.std.specs.Prelude.{◌≡◌, ◌+◌, ◌-◌, ◌^◌, ◌<◌, ◌≤◌, length, take, Ok};
+ghost use Rattle.std.specs.Prelude.{◌≡◌, ◌+◌, ◌-◌, ◌^◌, ◌<◌, length, Ok};
 ghost use Rattle.refusal.specs.Tells.{told};
 ghost use Rattle.cards.specs.Calls.{get_answer, get_buffer, put_answer, put_contents, strike_answer, strike_contents};
 ghost use Rattle.skip.specs.BadPlaces.{list_answer};
@@ -13,14 +14,12 @@ ghost use Rattle.skip.specs.Whole.{skipped-whole};
 use cards::{Card, Kind, judge_call, judge_place};
 pub use list::{LIST_MAX, judge_list, judgement_stands};
 use refusal::Refusal;
+use table::SkipTable;
 
 #[derive(Drop)]
 pub struct SkipCard<C> {
     card: C,
-    table: [usize; 64],
-    count: usize,
-    ghost few: { count ≤ 64 },
-    ghost size: { length table ≡ 64 },
+    bad: SkipTable,
 }
 
 // The place, or the next one if a bad place is it or lies below it.
@@ -48,29 +47,29 @@ impl<C: Card> SkipCard<C> {
     pub fn new(card: C, list: &[usize]) -> SkipCard<C>
         requires { list_answer (length (C.contents card)) list.now ≡ Ok tt }
         ensures card { result.card ≡ card }
-        ensures list { take result.count result.table ≡ list.now }
-        ensures places { skipped (take result.count result.table) (C.contents result.card)
+        ensures list { result.bad ≡ list.now }
+        ensures places { skipped result.bad (C.contents result.card)
             ≡ spared list.now (C.contents card) }
     {
-        let mut table = [0; 64];
-        let count = list.len();
-        table[0..count].copy_from_slice(list);
-        SkipCard { card, table, count }
+        SkipCard {
+            card,
+            bad: SkipTable::new(list),
+        }
     }
 
     // How many places are left.
     fn left(&self) -> usize
-        ensures count { result ≡ length (C.contents self.now.card) - self.now.count }
-        ensures small { 0 < result → result + self.now.count < 2 ^ 64 }
+        ensures count { result ≡ length (C.contents self.now.card) - length self.now.bad }
+        ensures small { 0 < result → result + length self.now.bad < 2 ^ 64 }
     {
-        self.card.places().saturating_sub(self.count)
+        self.card.places().saturating_sub(self.bad.list().len())
     }
 }
 
 impl<C: Card> Card for SkipCard<C> {
-    ghost contents = { λ s. skipped (take s.count s.table) (C.Card.contents s.card) };
+    ghost contents = { λ s. skipped s.bad (C.Card.contents s.card) };
 
-    ghost whole = { λ s. skipped-whole (take s.count s.table) (C.Card.contents s.card)
+    ghost whole = { λ s. skipped-whole s.bad (C.Card.contents s.card)
         (C.Card.whole s.card) };
 
     fn places(&self) -> usize {
@@ -79,52 +78,48 @@ impl<C: Card> Card for SkipCard<C> {
 
     fn get(&self, place: usize, buf: &mut [u8]) -> Result<Kind, Refusal> {
         judge_call(buf.len(), place, self.left())?;
-        let at = below(&self.table[0..self.count], place);
+        let at = below(self.bad.list(), place);
         self.card.get(at, buf)
     }
 
     fn put(&mut self, place: usize, block: &[u8]) -> Result<(), Refusal>
         ensures answer { told result ≡ put_answer
-            (skipped (take self.old.count self.old.table)
+            (skipped self.old.bad
             (C.contents self.old.card)) place (length block.now) }
-        ensures card { skipped (take self.new.count self.new.table)
+        ensures card { skipped self.new.bad
             (C.contents self.new.card)
-            ≡ put_contents (skipped (take self.old.count self.old.table)
+            ≡ put_contents (skipped self.old.bad
             (C.contents self.old.card)) place block.now }
         ensures under { C.contents self.new.card
-            ≡ put_below (take self.old.count self.old.table)
+            ≡ put_below self.old.bad
             (C.contents self.old.card) place block.now }
-        ensures list { take self.new.count self.new.table
-            ≡ take self.old.count self.old.table }
+        ensures list { self.new.bad ≡ self.old.bad }
     {
         judge_call(block.len(), place, self.left())?;
-        let at = below(&self.table[0..self.count], place);
+        let at = below(self.bad.list(), place);
         self.card.put(at, block)
     }
 
     fn strike(&mut self, place: usize) -> Result<(), Refusal>
         ensures answer { told result ≡ strike_answer
-            (skipped (take self.old.count self.old.table)
+            (skipped self.old.bad
             (C.contents self.old.card)) place }
-        ensures card { skipped (take self.new.count self.new.table)
+        ensures card { skipped self.new.bad
             (C.contents self.new.card)
-            ≡ strike_contents (skipped (take self.old.count self.old.table)
+            ≡ strike_contents (skipped self.old.bad
             (C.contents self.old.card)) place }
         ensures under { C.contents self.new.card
-            ≡ strike_below (take self.old.count self.old.table)
+            ≡ strike_below self.old.bad
             (C.contents self.old.card) place }
-        ensures list { take self.new.count self.new.table
-            ≡ take self.old.count self.old.table }
+        ensures list { self.new.bad ≡ self.old.bad }
     {
         judge_place(place, self.left())?;
-        let at = below(&self.table[0..self.count], place);
+        let at = below(self.bad.list(), place);
         self.card.strike(at)
     }
 }
 
 // The law of the places that a skip card has.
-pub fn skipping_stands() -> u8
+pub fn skipping_stands()
     ensures { SkipsTheListed }
-{
-    0
-}
+{}

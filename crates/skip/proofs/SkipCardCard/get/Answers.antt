@@ -1,40 +1,21 @@
 -- What a get of a skip card answers and copies, from the get below. Assumes nothing.
-use Rattle.std.proofs.Common.{◌-◌, ◌<◌, length, take, sym, ◌∙◌, arith, rules}
-use Rattle.std.proofs.lemmas.List.{length-take-le}
-use Rattle.cards.proofs.AnswerLaws.{judged_within, judged-length}
-use Rattle.skip.proofs.TableLaws.{length_list, length_left, found, found_get, found_buffer}
+use Rattle.std.proofs.Common.{◌≡◌, length, ◌∙◌, rules}
+use Rattle.skip.proofs.SkipLaws.{length-skipped}
+use Rattle.skip.proofs.FoundLaws.{Found, found_get, found_buffer}
 use Rattle.skip.proofs.SkipCardCard.get.Goals as goal
 
 pub returns-in_err-judge_call : goal.returns-in_err-judge_call
 returns-in_err-judge_call g c =
-    let t = length_list c.args.self.now.table c.args.self.now.count c.args.self.now.few
-    c.args.self.now.size in
-    let n = length_left c.args.self.now.table c.args.self.now.count
-    (g.C.Card.contents c.args.self.now.card) c.args.self.now.few c.args.self.now.size in
+    let n = length-skipped c.args.self.now.bad (g.C.Card.contents c.args.self.now.card) in
     record { answer = search rules; buffer = search rules }
-
-pub below-at-requires : goal.below-at-requires
-below-at-requires g c =
-    let h : c.args.place < c.left.result = judged_within (length c.args.buf.now) c.left.result
-    c.args.place (sym c.in_ok-judge_call.ensures) in
-    let s = c.left.ensures.small (omega arith) in
-    let t = length-take-le (c.args.self.now.count - 0) c.args.self.now.table (omega arith) in
-    omega arith
 
 pub returns : goal.returns
 returns g c =
-    let f = found c.args.self.now.table c.args.self.now.count
-    (g.C.Card.contents c.args.self.now.card) c.left.result c.args.place c.below-at.result
-    c.args.self.now.few c.args.self.now.size
-    (judged_within (length c.args.buf.now) c.left.result c.args.place
-    (sym c.in_ok-judge_call.ensures)) c.left.ensures.count c.below-at.ensures in
-    let e = judged-length (length c.args.buf.now) c.left.result c.args.place
-    (sym c.in_ok-judge_call.ensures) in
+    let bad = c.args.self.now.bad in
+    let cs = g.C.Card.contents c.args.self.now.card in
+    let f : Found bad cs c.args.place c.below-at.result = record { is = search rules; left = search rules } in
+    let e : length c.args.buf.now ≡ 8256 = search rules in
     record {
-      answer = c.get.ensures.answer ∙ found_get (take c.args.self.now.count c.args.self.now.table)
-          (g.C.Card.contents c.args.self.now.card) c.args.place c.below-at.result f
-          (length c.args.buf.now) e;
-      buffer = c.get.ensures.buffer ∙ found_buffer (take c.args.self.now.count c.args.self.now.table)
-          (g.C.Card.contents c.args.self.now.card) c.args.place c.below-at.result f
-          c.args.buf.now e;
+      answer = c.get.ensures.answer ∙ found_get bad cs c.args.place c.below-at.result f (length c.args.buf.now) e;
+      buffer = c.get.ensures.buffer ∙ found_buffer bad cs c.args.place c.below-at.result f c.args.buf.now e;
     }

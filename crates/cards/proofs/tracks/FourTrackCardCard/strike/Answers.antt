@@ -1,59 +1,22 @@
--- What a strike of a four-track card leaves in its memories and at its places, track by track. Assumes nothing.
-use Rattle.std.proofs.Common.{◌≡◌, [], ◌∷◌, refl, ap, ◌∙◌, rules}
+-- What a strike of a four-track card answers, and what it leaves in its memories and at its places. Assumes nothing.
+use Rattle.std.proofs.Common.{◌≡◌, refl, ap, ◌∙◌, rules}
 use Rattle.cards.specs.Memories.{memories}
 use Rattle.cards.specs.Tracks.{dealt, strike_memories}
-use Rattle.cards.proofs.TrackLaws.{length-dealt, dealt-strike}
+use Rattle.cards.proofs.TrackLaws.{length-dealt, dealt-strike, judged_place_on_track}
 use Rattle.cards.proofs.tracks.FourTrackCardCard.strike.Goals as goal
 
-pub returns-in_err-judge_place : goal.returns-in_err-judge_place
-returns-in_err-judge_place c =
-    let n = length-dealt (memories c.args.self.now) in
-    record { answer = search rules; card = search rules; memories = search rules; held = (refl, refl, refl, refl) }
+pub returns-in_err-judge_place-clause-memories : goal.returns-in_err-judge_place-clause-memories
+returns-in_err-judge_place-clause-memories c = let n = length-dealt (memories c.args.self.now) in search rules
 
-pub returns-in-0 : goal.returns-in-0
-returns-in-0 c =
-    let n = length-dealt (memories c.args.self.now) in
-    let m : c.strike_row.new.mem ∷ c.args.self.now.second.now ∷ c.args.self.now.third.now ∷ c.args.self.now.fourth.now ∷ []
-    ≡ strike_memories (memories c.args.self.now) c.args.place = search rules in
+pub returns : goal.returns
+returns c =
+    let ms = memories c.args.self.now in
+    let n = length-dealt ms in
+    let j = judged_place_on_track ms c.args.place (search rules) in
+    let m : memories c.change.new.self ≡ strike_memories ms c.args.place = search rules in
     record {
       answer = search rules;
-      card = ap dealt m ∙ dealt-strike (memories c.args.self.now) refl c.args.place;
+      card = ap dealt m ∙ dealt-strike ms refl c.args.place;
       memories = m;
-      held = (refl, refl, refl, refl);
-    }
-
-pub returns-in-1 : goal.returns-in-1
-returns-in-1 c =
-    let n = length-dealt (memories c.args.self.now) in
-    let m : c.args.self.now.first.now ∷ c.strike_row-in-1.new.mem ∷ c.args.self.now.third.now ∷ c.args.self.now.fourth.now ∷ []
-    ≡ strike_memories (memories c.args.self.now) c.args.place = search rules in
-    record {
-      answer = search rules;
-      card = ap dealt m ∙ dealt-strike (memories c.args.self.now) refl c.args.place;
-      memories = m;
-      held = (refl, refl, refl, refl);
-    }
-
-pub returns-in-2 : goal.returns-in-2
-returns-in-2 c =
-    let n = length-dealt (memories c.args.self.now) in
-    let m : c.args.self.now.first.now ∷ c.args.self.now.second.now ∷ c.strike_row-in-2.new.mem ∷ c.args.self.now.fourth.now ∷ []
-    ≡ strike_memories (memories c.args.self.now) c.args.place = search rules in
-    record {
-      answer = search rules;
-      card = ap dealt m ∙ dealt-strike (memories c.args.self.now) refl c.args.place;
-      memories = m;
-      held = (refl, refl, refl, refl);
-    }
-
-pub returns-in_default : goal.returns-in_default
-returns-in_default c =
-    let n = length-dealt (memories c.args.self.now) in
-    let m : c.args.self.now.first.now ∷ c.args.self.now.second.now ∷ c.args.self.now.third.now ∷ c.strike_row-in_default.new.mem ∷ []
-    ≡ strike_memories (memories c.args.self.now) c.args.place = search rules in
-    record {
-      answer = search rules;
-      card = ap dealt m ∙ dealt-strike (memories c.args.self.now) refl c.args.place;
-      memories = m;
-      held = (refl, refl, refl, refl);
+      held = search rules;
     }

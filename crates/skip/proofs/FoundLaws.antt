@@ -1,31 +1,15 @@
--- Laws of a skip card's calls, with the first entries of its table as the list. Assumes nothing.
-use Rattle.std.proofs.Common.{◌≡◌, ℕ, ◌-◌, ◌<◌, ◌≤◌, List, length, take, set, Ok, sym, ap, ◌∙◌, arith}
-use Rattle.std.proofs.lemmas.List.{length-take-le}
+-- Laws of a skip card's calls: what a call below answers and leaves is what the call above should. Assumes nothing.
+use Rattle.std.proofs.Common.{◌≡◌, ℕ, ◌-◌, ◌<◌, List, length, set, Ok, sym, ap, ◌∙◌, arith}
 use Rattle.cards.specs.Content.{Content, block, lost, content_at, bytes_of}
 use Rattle.cards.specs.Calls.{kind_of, if_granted, get_answer, get_buffer, put_answer, put_contents, strike_answer, strike_contents}
 use Rattle.skip.specs.Skipped.{unlisted, skipped, put_below, strike_below}
 use Rattle.cards.proofs.AnswerLaws.{judged_ok, judged_place_ok, get_in, buffer_in, put_in, strike_in}
 use Rattle.skip.proofs.SkipLaws.{unlisted_bound, length-skipped, content_at-skipped}
 
-pub length_list : (table : List ℕ) (count : ℕ) → count ≤ 64 → length table ≡ 64 → length (take count table) ≡ count
-length_list table count few size = length-take-le count table (omega arith)
-
-pub length_left : (table : List ℕ) (count : ℕ) (cs : List Content) → count ≤ 64 → length table ≡ 64
-    → length (skipped (take count table) cs) ≡ length cs - count
-length_left table count cs few size =
-    length-skipped (take count table) cs ∙ ap (λ z. length cs - z) (length_list table count few size)
-
 -- place q of the card below stands for place p
 pub record Found (bad : List ℕ) (cs : List Content) (p q : ℕ) : Type 0 where
   pub is : q ≡ unlisted bad p
   pub left : p < length cs - length bad
-
-pub found : (table : List ℕ) (count : ℕ) (cs : List Content) (left p q : ℕ) → count ≤ 64 → length table ≡ 64 → p < left
-    → left ≡ length cs - count → q ≡ unlisted (take (count - 0) table) p → Found (take count table) cs p q
-found table count cs left p q few size h e eq =
-    let z : count - 0 ≡ count = omega arith in
-    let t = length_list table count few size in
-    record { is = eq ∙ ap (λ k. unlisted (take k table) p) z; left = omega arith }
 
 module _ (bad : List ℕ) (cs : List Content) (p q : ℕ) (f : Found bad cs p q) where
   found_in : q < length cs

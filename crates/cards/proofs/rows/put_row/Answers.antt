@@ -1,0 +1,16 @@
+-- What a put to a row answers, and that it lays the mark and the block over the row. Assumes nothing.
+use Rattle.std.proofs.Common.{rules}
+use Rattle.std.proofs.lemmas.List.{drop-drop}
+use Rattle.cards.specs.Rows.{laid}
+use Rattle.cards.proofs.RowLaws.{length-rows}
+use Rattle.cards.proofs.rows.put_row.Goals as goal
+
+pub returns-in_err-judge_call-clause-answer : goal.returns-in_err-judge_call-clause-answer
+returns-in_err-judge_call-clause-answer c = let n = length-rows c.args.mem.now in search rules
+
+pub returns-clause-answer : goal.returns-clause-answer
+returns-clause-answer c = let n = length-rows c.args.mem.now in search rules
+
+pub returns-clause-memory : goal.returns-clause-memory
+unfolding laid
+returns-clause-memory c = search (rules, drop-drop)
