@@ -3,8 +3,9 @@ use crate::block_vectors::{body_crc, judged};
 use crate::filling::fill;
 use crate::sound_vectors::{flipped, zeroed};
 use crate::tally::Tally;
+use bits::Layout;
 use block::{BLOCK_LEN, Control2, DataHeader, FIELD_LEN, is_sound, make_data};
-use pages::{DATA, Entry, Page, TAPE_MARK, page_at};
+use pages::{ENTRY_LEN, Entry, Page, PageType, page_at};
 use refusal::Refusal;
 use std::io;
 
@@ -25,14 +26,12 @@ const SHORT_LEN: usize = 8255;
 const SEED: u8 = 7;
 
 // The first page's entry is the last eight bytes of the Data Field, and the second stands before it.
-const ENTRY_LEN: usize = 8;
-
 const RECORD_ENTRY_AT: usize = FIELD_LEN - ENTRY_LEN;
 
 const MARK_ENTRY_AT: usize = RECORD_ENTRY_AT - ENTRY_LEN;
 
 const RECORD_ENTRY: Entry = Entry {
-    kind: DATA,
+    kind: PageType::Data,
     next: false,
     prev: false,
     last: false,
@@ -43,7 +42,7 @@ const RECORD_ENTRY: Entry = Entry {
 };
 
 const MARK_ENTRY: Entry = Entry {
-    kind: TAPE_MARK,
+    kind: PageType::TapeMark,
     next: false,
     prev: false,
     last: true,
@@ -94,40 +93,36 @@ fn data_block(
     tally.check("it is made and sound", made && judged(block))
 }
 
-// Whether a page is a Data page with these bytes.
-fn is_data(page: Result<Page<'_>, Refusal>, start: usize, record: &[u8]) -> bool {
-    matches!(page, Ok(Page::Data { bytes, place }) if place == start && bytes == record)
-}
-
-fn is_mark(page: Result<Page<'_>, Refusal>, start: usize, len: usize) -> bool {
-    matches!(page, Ok(Page::TapeMark { place, count }) if place == start && count == len)
-}
-
-fn is_refused(page: Result<Page<'_>, Refusal>, why: Refusal) -> bool {
-    page.is_err_and(|found| found == why)
-}
-
 fn pages_of(tally: &mut Tally<'_>, block: &[u8]) -> io::Result<()> {
     let mut record = [0; RECORD_LEN];
     fill(&mut record, SEED);
-    let data = is_data(page_at(block, 1), 0, &record);
-    let mark = is_mark(page_at(block, 2), RECORD_LEN, MARK_LEN);
-    let none = is_refused(page_at(block, 3), Refusal::NoSuchNumber(3));
-    tally.check("page 1 is the record, 100 bytes at 0", data)?;
-    tally.check("page 2 is the tape mark, 8092 bytes at 100", mark)?;
-    tally.check("page 3 is refused with 10", none)
-}
-
-fn is_too_short<T: Drop>(answer: Result<T, Refusal>) -> bool {
-    answer.is_err_and(|why| why == Refusal::WrongLength(SHORT_LEN))
+    let data = Page::Data {
+        bytes: &record,
+        place: 0,
+    };
+    let mark = Page::TapeMark {
+        place: RECORD_LEN,
+        count: MARK_LEN,
+    };
+    let none = Refusal::NoSuchNumber(3);
+    tally.check(
+        "page 1 is the record, 100 bytes at 0",
+        page_at(block, 1) == Ok(data),
+    )?;
+    tally.check(
+        "page 2 is the tape mark, 8092 bytes at 100",
+        page_at(block, 2) == Ok(mark),
+    )?;
+    tally.check("page 3 is refused with 10", page_at(block, 3) == Err(none))
 }
 
 // A buffer one byte too short.
 fn short(tally: &mut Tally<'_>) -> io::Result<()> {
     let mut bytes = [0; SHORT_LEN];
-    let made = is_too_short(make_data(&mut bytes, HEADER, first_of(6)));
-    let judged = is_too_short(is_sound(&bytes));
-    let paged = is_refused(page_at(&bytes, 1), Refusal::WrongLength(SHORT_LEN));
+    let short = Refusal::WrongLength(SHORT_LEN);
+    let made = make_data(&mut bytes, HEADER, first_of(6)) == Err(short);
+    let judged = is_sound(&bytes) == Err(short);
+    let paged = page_at(&bytes, 1) == Err(short);
     tally.check("8255 bytes are refused with 1", made && judged && paged)
 }
 
