@@ -36,7 +36,7 @@ fn data_field(block: &[u8; BLOCK_LEN]) -> &[u8; FIELD_LEN]
     block.first_chunk().unwrap()
 }
 
-// The same of a Data Field.
+// Page `number` of a block with this Data Field.
 fn page_in(field: &[u8; FIELD_LEN], number: usize) -> Result<Page<'_>, Refusal>
     ensures { viewed result ≡ page_among field.now (map_size field.now) number }
 {
