@@ -13,6 +13,9 @@ use bits::Layout;
 use crc::crc64;
 use refusal::{BLOCK_LEN, Refusal};
 
+// Each of the three calls makes its array by two lines of its own: no contract of a function that answers
+// `Result<&mut [u8; N], Refusal>` for a slice ties what is written to the caller's bytes.
+
 // Makes a data block of the Data Field that stands in the first 8,208 bytes of the buffer.
 pub fn make_data(block: &mut [u8], header: DataHeader, at: Control2) -> Result<(), Refusal>
     ensures answer { told result ≡ length_answer block.old tt }

@@ -22,6 +22,7 @@ pub struct Trial<C> {
 
 // Puts another block at each place of a card and of its model.
 pub fn put_each<C: Card>(card: &mut C, model: &mut Model) {
+    // By number: a card is no slice, and the model is written to on the way.
     for place in 0..model.places() {
         let seed = block_byte(100, place);
         model.hold(place, Held::Block(seed));
@@ -67,6 +68,7 @@ impl<C: Card> Trial<C> {
         let places = self.model.places();
         let agrees = self.card.places() == places;
         self.compare(agrees);
+        // By number: the places of a card are no slice.
         for place in 0..places {
             self.compare_place(place);
         }

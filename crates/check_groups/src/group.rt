@@ -8,6 +8,7 @@ use crate::tables::product;
 pub fn next(state: [u16; 4], group: [u16; 4]) -> [u16; 4]
     ensures { result ≡ next_words state group }
 {
+    // Four terms by hand: a fold over the positions would zip two arrays and count, and be no shorter.
     let all = products(0, state[0] ^ group[0])
         ^ products(1, state[1] ^ group[1])
         ^ products(2, state[2] ^ group[2])

@@ -25,7 +25,7 @@ pub trait CheckCode {
         ensures { Filled (code self.now) column marks result };
 
     // The right column that agrees with the words not marked missing, and the flag beside it.
-    // Twenty zeros stand beside a refusal.
+    // Twenty zeros stand beside a refusal: a tuple and no `Result`, since the array is fixed in both cases.
     fn rebuild(&self, column: [u16; 20], marks: [bool; 20]) -> ([u16; 20], Result<(), Refusal>)
         ensures words { result.0 ≡ (rebuilt (code self.now) column marks).0 }
         ensures flag { told result.1 ≡ (rebuilt (code self.now) column marks).1 }

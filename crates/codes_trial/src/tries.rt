@@ -33,6 +33,7 @@ pub struct Tries {
 // Tries every choice of missing positions whose bits are below `choices`.
 pub fn every_choice<K: CheckCode>(code: &K, column: [u16; 20], choices: u32) -> Tries {
     let mut tries = Tries::default();
+    // The number itself is the choice.
     for bits in 0..choices {
         one_choice(code, column, marks_of(bits), &mut tries);
     }

@@ -36,6 +36,7 @@ fn check_all<K: CheckCode>(code: &K, work: &mut [u8; WORK_LEN])
     ensures { Checked (K.CheckCode.code code.now) work.old work.new }
 {
     let r = code.r();
+    // By number: the words of a column lie a block apart, so no slice has them.
     for c in 0..WORDS {
         let checks = code.check_words(words_at(work, c));
         put_checks(work, c, &checks[..r]);

@@ -98,6 +98,7 @@ pub extern "C" fn dlt_is_sound(block: &[u8]) -> u8
     verdict_of(is_sound(block))
 }
 
+// A number, since C knows neither `Result` nor the enum.
 fn refused_with(answer: Result<(), Refusal>) -> u8
     ensures { result ≡ refused_with (told answer) }
 {
@@ -107,6 +108,7 @@ fn refused_with(answer: Result<(), Refusal>) -> u8
     }
 }
 
+// A number for the same reason.
 fn verdict_of(answer: Result<bool, Refusal>) -> u8
     ensures { result ≡ verdict (told answer) }
 {

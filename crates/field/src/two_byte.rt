@@ -52,6 +52,7 @@ fn reciprocal(a: u16) -> u16
 {
     let mut square = multiply(a, a);
     let mut product = 1;
+    // Fifteen turns, with nothing to walk along.
     for _ in 0..15u32 {
         product = multiply(product, square);
         square = multiply(square, square);
@@ -67,6 +68,7 @@ fn point_at(i: usize) -> u16
         return near_point(i);
     }
     let mut x = 1;
+    // i turns, with nothing to walk along.
     for _ in 0..i {
         x = multiply(2, x);
     }

@@ -76,6 +76,7 @@ fn show_fields(rt: &HostRuntime, block: &[u8; BLOCK_LEN]) -> io::Result<()> {
 // Goes through the pages until the call refuses the number; the Data pages give the records back.
 fn show_pages(rt: &HostRuntime, block: &[u8; BLOCK_LEN], records: &[Vec<u8>]) -> io::Result<()> {
     let mut records = records.iter();
+    // By number, since the call takes numbers; it says where they end.
     for number in 1..MOST_PAGES {
         match page_at(block, number) {
             Ok(page) => show_page(rt, number, page, &mut records)?,

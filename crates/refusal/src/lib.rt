@@ -59,7 +59,7 @@ pub enum Refusal {
 }
 
 impl Refusal {
-    // The number of the refusal, from 1 to 15.
+    // The number of the refusal, from 1 to 15: what the box's users and its documents call it by.
     pub fn number(self) -> u8
         ensures { result ≡ number_of self }
     {

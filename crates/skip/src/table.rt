@@ -5,6 +5,7 @@ ghost use Rattle.skip.specs.BadPlaces.{list_max};
 use crate::list::LIST_MAX;
 use std::marker::Model;
 
+// The box has no heap: an array and a count in place of a `Vec`.
 #[derive(Drop)]
 pub struct SkipTable {
     places: [usize; LIST_MAX],
