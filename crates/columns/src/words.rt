@@ -8,6 +8,9 @@ use std::array;
 // The words of a block that check words cover.
 pub(crate) const WORDS: usize = 4114;
 
+// The numbers of a position and of a column are plain numbers with bounds in each contract here: types of their own
+// would be made and taken apart again at every call.
+
 // Word c of the block at position i, low byte first.
 fn word(work: &[u8; WORK_LEN], i: usize, c: usize) -> u16
     requires block { i < 20 }
