@@ -1,4 +1,5 @@
-// A record of fields of bits that stands in a fixed number of bytes.
+// A record of fields of bits that stands in a fixed number of bytes. That reading undoes writing, and writing reading,
+// is stated of each layout in its own crate, where the proofs call tactics.
 ghost use Rattle.std.specs.Prelude.{◌≡◌, ◌^◌, ◌<◌, List, ℕ};
 ghost use Rattle.bits.specs.Fields.{sized};
 

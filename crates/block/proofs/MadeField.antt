@@ -124,7 +124,7 @@ module _ (field : List ℕ) (c1 : Control1) (c2 : Control2) (l : length field �
             (sym (ap crc_agrees block_is ∙ sealed-agrees body body-length))
             (sym (ap₂ sound_kind kept (edc_back a) ∙ k)));
         kind = kept;
-        first = λ w. ap control1_of first-bytes ∙ control1_decodes c1 w h;
+        first = λ w. ap control1_of first-bytes ∙ control1_decodes c1 w ∙ ap (λ t. record c1 { kind = t }) h;
         second = λ w. ap control2_of second-bytes ∙ control2_decodes c2 w;
       }
 

@@ -2,6 +2,7 @@
 ghost use Rattle.std.specs.Prelude.{◌≡◌};
 ghost use Rattle.block.specs.BlockType.{type_of, number_of};
 
+// Its own enum beside the type of a page: a trait for both would be longer than what they share.
 #[derive(Clone, Copy, PartialEq, Eq, Debug)]
 pub enum BlockType {
     // 1: it holds pages.

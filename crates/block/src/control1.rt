@@ -58,6 +58,7 @@ impl Layout<20> for Control1 {
         ]
     }
 
+    // Fields of bits and no bytes, so by division and remainder.
     fn read(bytes: &[u8; 20]) -> Control1 {
         #[rattlefmt::skip]
         let [h0, h1, h2, h3, t0, t1, t2, c, o0, o1, o2, o3, s0, s1, m0, m1, k, l0, l1, l2] = *bytes;

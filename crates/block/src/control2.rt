@@ -49,6 +49,7 @@ impl Layout<16> for Control2 {
         [h0, h1, h2, h3, h4, h5, h6, h7, h8, e, v0, v1, t0, t1, t2, k]
     }
 
+    // Fields of bits and no bytes, so by shift and remainder.
     fn read(bytes: &[u8; 16]) -> Control2 {
         #[rattlefmt::skip]
         let [h0, h1, h2, h3, h4, h5, h6, h7, h8, entity, v0, v1, t0, t1, t2, track] = *bytes;
@@ -72,7 +73,8 @@ impl Layout<16> for Control2 {
 impl Control2 {
     // Everything before the Entity Number.
     fn head(self) -> u128
-        ensures { result ≡ join (5 ∷ 5 ∷ 32 ∷ 24 ∷ 5 ∷ 1 ∷ []) (self.reserved ∷ self.offset ∷ self.first ∷ self.place ∷ self.blocks ∷ bit self.starts ∷ []) }
+        ensures { result ≡ join (5 ∷ 5 ∷ 32 ∷ 24 ∷ 5 ∷ 1 ∷ [])
+            (self.reserved ∷ self.offset ∷ self.first ∷ self.place ∷ self.blocks ∷ bit self.starts ∷ []) }
     {
         (u128::from(self.reserved % 32) << 67)
             + (u128::from(self.offset % 32) << 62)

@@ -20,7 +20,7 @@ pub fn edc_of(bytes: &[u8]) -> u16
     }
 }
 
-// The sum after one word more: that is exclusive-ored in, and the sum turns by one bit to the left.
+// The sum after one word more: the word is exclusive-ored in, and the sum turns by one bit to the left.
 fn take_in(sum: u16, low: u8, high: u8) -> u16
     ensures { result ≡ turned (bit_xor sum (low + 256 * high)) }
 {

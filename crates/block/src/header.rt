@@ -93,7 +93,7 @@ impl From<EndHeader> for Control2 {
     }
 }
 
-// Control Field 1 of a check block: the entities of its envelope and the place before it.
+// Control Field 1 of a check block: the entities of its envelope and the place before it. Two values need no header.
 pub(crate) fn check_control(entities: u8, back: u32) -> Control1
     ensures { result ≡ check_control entities back }
 {

@@ -2,7 +2,8 @@
 ghost use Rattle.std.specs.Prelude.{◌≡◌, ◌+◌, ◌≤◌, ◌++◌, length, take, drop};
 ghost use Rattle.refusal.specs.Tells.{told};
 ghost use Rattle.block.specs.Control.{bytes1, bytes2};
-ghost use Rattle.block.specs.Block.{data_field, zeros, sealed, field_block, data_block, end_block, check_block, length_answer, made_of};
+ghost use Rattle.block.specs.Block.{data_field, zeros, sealed, field_block, length_answer, made_of};
+ghost use Rattle.block.specs.Block.{data_block, end_block, check_block};
 
 use crate::control1::Control1;
 use crate::control2::Control2;
@@ -14,7 +15,8 @@ use crc::crc64;
 use refusal::{BLOCK_LEN, Refusal};
 
 // Each of the three calls makes its array by two lines of its own: no contract of a function that answers
-// `Result<&mut [u8; N], Refusal>` for a slice ties what is written to the caller's bytes.
+// `Result<&mut [u8; N], Refusal>` for a slice ties what is written to the caller's bytes, and handing each sealing in
+// as a closure would be no shorter.
 
 // Makes a data block of the Data Field that stands in the first 8,208 bytes of the buffer.
 pub fn make_data(block: &mut [u8], header: DataHeader, at: Control2) -> Result<(), Refusal>
@@ -22,8 +24,8 @@ pub fn make_data(block: &mut [u8], header: DataHeader, at: Control2) -> Result<(
     ensures block { block.new ≡ made_of block.old (data_block (data_field block.old) header at) }
 {
     let len = block.len();
-    let block = block.as_mut_array().ok_or(Refusal::WrongLength(len))?;
-    seal_field(block, header.into(), at);
+    let data = block.as_mut_array().ok_or(Refusal::WrongLength(len))?;
+    seal_field(data, header.into(), at);
     Ok(())
 }
 
@@ -33,8 +35,8 @@ pub fn make_end(block: &mut [u8], header: EndHeader) -> Result<(), Refusal>
     ensures block { block.new ≡ made_of block.old (end_block header) }
 {
     let len = block.len();
-    let block = block.as_mut_array().ok_or(Refusal::WrongLength(len))?;
-    seal_zeros(block, header.into(), header.into());
+    let end = block.as_mut_array().ok_or(Refusal::WrongLength(len))?;
+    seal_zeros(end, header.into(), header.into());
     Ok(())
 }
 
@@ -44,8 +46,8 @@ pub fn make_check(block: &mut [u8], entities: u8, back: u32, at: Control2) -> Re
     ensures block { block.new ≡ made_of block.old (check_block (take 8228 block.old) entities back at) }
 {
     let len = block.len();
-    let block = block.as_mut_array().ok_or(Refusal::WrongLength(len))?;
-    seal_words(block, check_control(entities, back), at);
+    let check = block.as_mut_array().ok_or(Refusal::WrongLength(len))?;
+    seal_words(check, check_control(entities, back), at);
     Ok(())
 }
 

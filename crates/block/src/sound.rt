@@ -34,7 +34,7 @@ pub fn is_sound(block: &[u8]) -> Result<bool, Refusal>
     exactly(block).map(judge)
 }
 
-// One line for each control field: a function of both would take a place with a bound, and say it at each call.
+// One line for each control field: one function for both would need the place as a parameter, and a bound on it.
 fn control1_in(block: &[u8; BLOCK_LEN]) -> Control1
     ensures { result ≡ control1_at block.now }
 {

@@ -19,7 +19,7 @@ pub fn row_count(mem: &[u8]) -> usize
     mem.len() / ROW_LEN
 }
 
-// What a mark means.
+// What a mark means; marks are fixed byte strings.
 fn read_mark(mark: &[u8]) -> Kind
     requires { length mark.now ≡ 2 }
     ensures { result ≡ mark_kind mark.now }

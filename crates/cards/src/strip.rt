@@ -9,6 +9,7 @@ use crate::rows::{get_row, put_row, row_count, strike_row};
 use crate::{Card, Kind};
 use refusal::Refusal;
 
+// A type of its own: one over an array of memories, for this card and the four-track card, gets no proof yet.
 #[derive(Drop)]
 pub struct StripCard<'a> {
     mem: &'a mut [u8],

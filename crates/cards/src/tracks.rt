@@ -68,7 +68,7 @@ impl<'a> FourTrackCard<'a> {
         front.min(back)
     }
 
-    // The memory of a track.
+    // The memory of a track; by a match, since the four memories are fields.
     fn memory(&self, track: usize) -> &[u8]
         requires { track < 4 }
         ensures { result.now ≡ memory_of (memories self.now) track }
@@ -81,7 +81,7 @@ impl<'a> FourTrackCard<'a> {
         }
     }
 
-    // Makes a change in the memory of a track.
+    // Makes a change in the memory of a track, found in the same way.
     fn change<F: FnOnce(&mut [u8]) -> Result<(), Refusal>>(
         &mut self,
         track: usize,

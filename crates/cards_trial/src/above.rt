@@ -23,7 +23,7 @@ fn skip_on<C: Card + Drop>(
     run(rt, name, SkipCard::new(card, list), left)
 }
 
-// A skip card on a skip card.
+// A skip card on a skip card. It judges as above and not by it, since it hands the card on.
 fn skip_twice<C: Card + Drop>(rt: &HostRuntime, card: C, below: &Model) -> io::Result<()> {
     let name = "skip on skip";
     let list = [0, 3, 4];

@@ -45,7 +45,7 @@ fn four_checks(words: [u16; 16]) -> [u16; 4]
     let mut state = [0; 4];
     let (groups, _) = words.as_chunks::<4>();
     for group in groups {
-        // In two steps: the check does not cover an array that one call takes and gives.
+        // In two steps: the check doesn't cover a call whose argument and result are the same array.
         let behind = next(state, *group);
         state = behind;
     }

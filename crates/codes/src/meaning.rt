@@ -15,7 +15,8 @@ pub trait CheckCode {
     fn r(&self) -> usize
         ensures { result ≡ (code self.now).r };
 
-    // The check words of sixteen words, and zeros up to four.
+    // The check words of sixteen words, and zeros up to four: an array, since a column goes by value, and its marks
+    // beside it, in every call here.
     fn check_words(&self, words: [u16; 16]) -> [u16; 4]
         ensures { result ≡ check_four (code self.now) words };
 
@@ -41,6 +42,7 @@ pub trait CheckCode {
         if self.check_words(front) == tail {
             return (filled, Ok(()));
         }
+        // Zeros: the refusal has these values in every layer, and this one knows no entity.
         let nowhere = Refusal::NoColumn {
             envelope: 0,
             entity: 0,

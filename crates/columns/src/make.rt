@@ -7,7 +7,7 @@ use crate::words::{WORDS, put_word, words_at};
 use codes::CheckCode;
 use refusal::{Refusal, WORK_LEN};
 
-// Puts check words under the data words of column c.
+// Puts check words under the data words of column c. `put_column` writes whole columns, and its clauses speak of those.
 fn put_checks(work: &mut [u8; WORK_LEN], c: usize, checks: &[u16])
     requires within { c < 4114 }
     requires few { length checks.now ≤ 4 }
@@ -26,6 +26,7 @@ pub fn make_checks<K: CheckCode>(code: &K, work: &mut [u8]) -> Result<(), Refusa
     ensures answer { told result ≡ judged_work (length work.old) }
     ensures work { MadeChecks (K.CheckCode.code code.now) work.old work.new }
 {
+    // Two lines, as the calls that make blocks have them: no function can lend a slice as an array in a `Result`.
     let len = work.len();
     let work = work.as_mut_array().ok_or(Refusal::WrongLength(len))?;
     check_all(code, work);

@@ -8,8 +8,8 @@ use std::array;
 // The words of a block that check words cover.
 pub(crate) const WORDS: usize = 4114;
 
-// The numbers of a position and of a column are plain numbers with bounds in each contract here: types of their own
-// would be made and taken apart again at every call.
+// The numbers of a position and of a column are plain numbers with bounds in each contract of this crate: types of
+// their own would be made and taken apart again at every call.
 
 // Word c of the block at position i, low byte first.
 fn word(work: &[u8; WORK_LEN], i: usize, c: usize) -> u16
@@ -29,6 +29,7 @@ pub(crate) fn put_word(work: &mut [u8; WORK_LEN], i: usize, c: usize, word: u16)
         work.new ≡ slice_set (slice_set work.old at (word % 256)) (at + 1) (word / 256) }
 {
     let at = i * BLOCK_LEN + 2 * c;
+    // Two assignments: a copy to a range of two would be no plainer.
     let [low, high] = word.to_le_bytes();
     work[at] = low;
     work[at + 1] = high;

@@ -8,7 +8,8 @@ ghost use Rattle.crc.specs.Laws.{ShowsAChangedBurst, ShowsAChangedByte};
 
 mod tables;
 
-// The CRC of the byte with so many zero bytes behind it.
+// The CRC of the byte with so many zero bytes behind it. The eight tables stand in one list, which the proof computes
+// whole; rows would say the same by two indices.
 fn entry(zeros: usize, byte: u8) -> u64
     requires { zeros < 8 }
     ensures { result ≡ crc (byte ∷ replicate zeros 0) }

@@ -15,7 +15,7 @@ use refusal::Refusal;
 
 // What a data block says of itself; each field as in the control fields of the block.
 #[repr(C)]
-#[derive(Clone, Copy, Drop)]
+#[derive(Clone, Copy, PartialEq, Eq, Debug)]
 pub struct DataFields {
     pub mark: u32,
     pub object: u32,

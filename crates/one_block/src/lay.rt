@@ -8,6 +8,7 @@ use crate::laying::Laying;
 use bits::Layout;
 use block::{BLOCK_LEN, FIELD_LEN};
 use pages::{ENTRY_LEN, Entry, MAX_FREE, PageType};
+use std::error::Error;
 use std::fmt;
 
 // The records do not fit one block.
@@ -19,6 +20,8 @@ impl fmt::Display for DoesNotFit {
         f.write_str("these records do not fit one block")
     }
 }
+
+impl Error for DoesNotFit {}
 
 // Lays the records out, and Filler behind them.
 pub fn lay(records: &[Vec<u8>]) -> Result<[u8; BLOCK_LEN], DoesNotFit>
@@ -48,7 +51,8 @@ impl Laying {
     // Lays a page of the whole record, if it fits.
     fn add(&mut self, bytes: &[u8]) -> Result<(), DoesNotFit>
         ensures fits { IsOk result ↔ IsTrue (fits (laid self.old) bytes.now) }
-        ensures page { OnOk result (laid self.new ≡ with_page (laid self.old) Data bytes.now (length bytes.now) (length bytes.now)) }
+        ensures page { OnOk result
+            (laid self.new ≡ with_page (laid self.old) Data bytes.now (length bytes.now) (length bytes.now)) }
         ensures none { OnErr result (self.new ≡ self.old) }
     {
         let count = bytes.len();

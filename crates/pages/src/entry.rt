@@ -45,7 +45,8 @@ impl Layout<ENTRY_LEN> for Entry {
         [f0, f1, c0, c1, t0, t1, t2, t3]
     }
 
-    // Two bytes of type and flags, two of Page Byte Count, four of Record Byte Count.
+    // Two bytes of type and flags, two of Page Byte Count, four of Record Byte Count. The flags are bits and no bytes,
+    // so by division and remainder.
     fn read(bytes: &[u8; ENTRY_LEN]) -> Entry {
         let [f0, f1, c0, c1, t0, t1, t2, t3] = *bytes;
         let flags = u16::from_be_bytes([f0, f1]);
@@ -65,7 +66,9 @@ impl Layout<ENTRY_LEN> for Entry {
 impl Entry {
     // Page Type, the four flags and the reserved bits.
     fn flags(self) -> u16
-        ensures { result ≡ join (3 ∷ 1 ∷ 1 ∷ 1 ∷ 1 ∷ 9 ∷ []) (number_of self.kind ∷ bit self.next ∷ bit self.prev ∷ bit self.last ∷ bit self.compressed ∷ self.reserved ∷ []) }
+        ensures { result ≡ join (3 ∷ 1 ∷ 1 ∷ 1 ∷ 1 ∷ 9 ∷ [])
+            (number_of self.kind ∷ bit self.next ∷ bit self.prev ∷ bit self.last
+            ∷ bit self.compressed ∷ self.reserved ∷ []) }
     {
         u16::from(u8::from(self.kind) % 8) * 8192
             + u16::from(self.next) * 4096

@@ -40,6 +40,7 @@ fn data_field(block: &[u8; BLOCK_LEN]) -> &[u8; FIELD_LEN]
 fn page_in(field: &[u8; FIELD_LEN], number: usize) -> Result<Page<'_>, Refusal>
     ensures { viewed result ≡ page_among field.now (map_size field.now) number }
 {
+    // Zeros: the refusal has these values in every layer, and this one knows no entity.
     let pages = map_size(field).ok_or(Refusal::Unlawful {
         envelope: 0,
         entity: 0,

@@ -2,6 +2,7 @@
 ghost use Rattle.std.specs.Prelude.{◌≡◌};
 ghost use Rattle.pages.specs.PageType.{number_of, type_of};
 
+// Its own enum beside the type of a block: a trait for both would be longer than what they share.
 #[derive(Clone, Copy, PartialEq, Eq, Debug)]
 pub enum PageType {
     // 1: bytes that only fill the block up.

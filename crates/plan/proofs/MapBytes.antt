@@ -60,7 +60,7 @@ entry_here pg pgs i front tail field e hl ht w k =
     ap (λ (x : List ℕ). entry_of (take 8 (drop (8208 - 8 * (i + 1)) x))) e'
     ∙ ap (λ (x : List ℕ). entry_of (take 8 x)) (drop_at (front ++ entries pgs) (eb ++ tail) (8208 - 8 * (i + 1)) n)
     ∙ ap entry_of (take_at eb tail 8 (length-entry (entry_for pg (is_empty pgs))))
-    ∙ entry_decodes (entry_for pg (is_empty pgs)) w k
+    ∙ entry_decodes (entry_for pg (is_empty pgs)) w ∙ ap (λ t. record (entry_for pg (is_empty pgs)) { kind = t }) k
 
 -- ---- the map from entry i on, where pages stand with their entries before those of `tail`
 

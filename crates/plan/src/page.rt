@@ -1,6 +1,7 @@
 // A page as it is planned, before it has a place in a block.
 use pages::PageType;
 
+// One struct for all three types, since the laws go over the fields of all pages alike.
 #[derive(Clone, Copy, PartialEq, Eq, Debug)]
 pub struct PlannedPage {
     // Filler, Data or a tape mark.

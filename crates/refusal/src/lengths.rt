@@ -22,7 +22,9 @@ pub fn check_length(found: usize, wanted: usize) -> Result<(), Refusal>
 
 // The buffer as an array; a buffer of another length is refused.
 pub fn exactly<const N: usize>(bytes: &[u8]) -> Result<&[u8; N], Refusal>
-    ensures answer { MatchResult result (λ a. (length bytes.now ≡ N) × (a.now ≡ bytes.now)) (λ e. (length bytes.now ≢ N) × (tells e ≡ (1, length bytes.now ∷ []))) }
+    ensures answer { MatchResult result
+        (λ a. (length bytes.now ≡ N) × (a.now ≡ bytes.now))
+        (λ e. (length bytes.now ≢ N) × (tells e ≡ (1, length bytes.now ∷ []))) }
 {
     bytes.as_array().ok_or(Refusal::WrongLength(bytes.len()))
 }

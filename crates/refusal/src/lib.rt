@@ -30,7 +30,7 @@ pub enum Refusal {
     BadList(usize),
     // 8: a write would take so many data blocks.
     TooManyBlocks(usize),
-    // 9: the places needed and the places left.
+    // 9: the places needed and the places left; one tuple, as the step that plans answers them.
     NoRoom((usize, usize)),
     // 10: there is no page or object of this number.
     NoSuchNumber(usize),
@@ -87,6 +87,7 @@ impl Refusal {
 impl fmt::Display for Refusal {
     ghost output = { λ e. Some (text e) };
 
+    // One case for each refusal.
     fn fmt<W: fmt::Write>(&self, f: &mut fmt::Formatter<W>) -> fmt::Result {
         match *self {
             Refusal::WrongLength(n) => write!(f, "refused 1 length {n}"),

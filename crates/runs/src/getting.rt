@@ -8,7 +8,8 @@ use crate::judging::judge_blocks;
 use cards::{BLOCK_LEN, Card};
 use refusal::Refusal;
 
-// Copies the block at a place of a run to a part of a work area, or zeros where none stands or the card ends.
+// Copies the block at a place of a run to a part of a work area, or zeros where none stands or the card ends. The part
+// is a slice, as the caller cuts it out.
 fn fetch<C: Card>(card: &C, start: usize, index: usize, part: &mut [u8])
     requires { length part.old ≡ 8256 }
     ensures { part.new ≡ bytes_of (content_at (C.contents card.now) (start + index)) }

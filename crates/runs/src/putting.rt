@@ -16,7 +16,7 @@ fn put_in_turns<'b, C: Card, F: Fn(usize) -> (usize, &'b [u8])>(card: &mut C, tu
     ensures { FoldsTo (PutInTurn (F.post turn)) (C.contents card.old) (range_with_len 0 turns)
         (C.contents card.new) }
 {
-    // By number, since that is what the closure is asked by.
+    // By number: going up, going down and standing still differ only in what a turn gives.
     for i in 0..turns {
         let (place, block) = turn(i);
         let _ = card.put(place, block);

@@ -1,3 +1,4 @@
+-- The words of the number are the next check words. Assumes nothing.
 use Rattle.std.proofs.Common.{◌≡◌, refl, ℕ, zero, suc, ◌/◌, ◌%◌, ◌^◌, ◌<◌, [], ◌∷◌, get_or, ap, ◌∙◌, ap₂, arith, lit<, rules, bit_xor}
 use Rattle.std.specs.Int.Bits.{xor_lt}
 use Rattle.check_groups.specs.Groups.{number, next_word}

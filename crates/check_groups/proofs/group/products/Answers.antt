@@ -1,3 +1,4 @@
+-- The products of both bytes are those of the word. Assumes nothing.
 use Rattle.std.proofs.Common.{◌≡◌, ◌*◌, ◌/◌, ◌%◌, ◌^◌, ◌<◌, ap, ◌∙◌, ap₂, arith, lit<, rules, get_or, bit_xor}
 use Rattle.check_groups.specs.Groups.{number, products}
 use Rattle.check_groups.proofs.Lanes.{by_bytes}

@@ -1,3 +1,4 @@
+-- Each word is kept or blank. Assumes nothing.
 use Rattle.std.proofs.Common.{◌≡◌, false, not, ◌&&◌, length, get_or, ltb, cond, zero-add, rules, tests}
 use Rattle.codes.proofs.Blanking.{blank_all}
 use Rattle.codes.proofs.Made.{made_at}

@@ -1,3 +1,4 @@
+-- A turn counts one mark. Assumes nothing.
 use Rattle.std.proofs.Common.{◌≡◌, ℕ, ◌+◌, ◌<◌, false, cond, length, get_or, take, refl, sym, ap, ◌∙◌, add-one, arith, rules}
 use Rattle.std.proofs.lemmas.List.{length-take-le, get_or-take}
 use Rattle.codes.specs.Filling.{missing_count}

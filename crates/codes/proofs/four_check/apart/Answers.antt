@@ -1,3 +1,4 @@
+-- Each word is the difference of a check word and the word in its place. Assumes nothing.
 use Rattle.std.proofs.Common.{◌≡◌, get_or, ap, ap₂, ◌∙◌, zero-add, rules, bit_xor}
 use Rattle.std.proofs.lemmas.List.{get_or-drop}
 use Rattle.codes.specs.TwoCodes.{by_sums}

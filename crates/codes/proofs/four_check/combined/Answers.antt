@@ -1,3 +1,4 @@
+-- A fold of products is the total of products. Assumes nothing.
 use Rattle.std.proofs.Common.{ℕ, ◌≡◌, length, get_or, fold, ap, ◌∙◌, rules, tests, arith, bit_xor}
 use Rattle.std.specs.List.{zip}
 use Rattle.std.proofs.lemmas.Slice.Zip.{length-zip, get_or-zip}

@@ -1,3 +1,4 @@
+-- The four sums, from the check words of the sixteen in front. Assumes nothing.
 use Rattle.std.proofs.Common.{ℕ, ◌≡◌, ◌<◌, [], length, get_or, ◌∙◌, zero-add, rules}
 use Rattle.field.specs.Polynomials.{word_product}
 use Rattle.field.specs.Sums.{total}

@@ -1,3 +1,4 @@
+-- Both codes are lawful, and their right columns have zero sums. Assumes nothing.
 use Rattle.codes.specs.TwoCodes.{parity, four_check}
 use Rattle.codes.specs.Solutions.{lawful, sums_make_right}
 use Rattle.codes.specs.BothSolve.{parity_solves, four_solves}

@@ -1,3 +1,4 @@
+-- A fold of exclusive-or is the total. Assumes nothing.
 use Rattle.std.proofs.Common.{◌≡◌, fold, ◌∙◌, rules, bit_xor}
 use Rattle.std.proofs.iter.runs.Made.{chains}
 use Rattle.codes.proofs.Folding.{total_folded}

@@ -1,3 +1,4 @@
+-- Each missing word is put in by itself. Assumes nothing.
 use Rattle.std.proofs.Common.{◌≡◌, ℕ, ◌+◌, ◌<◌, ◌≤◌, true, false, ◌&&◌, ltb, length, get_or, sym, ap, ◌∙◌, zero-add, arith, rules, tests, bit_xor}
 use Rattle.std.specs.Int.Bits.{xor_zero_r}
 use Rattle.std.proofs.lemmas.Bool.{and_parts, ltb-true}

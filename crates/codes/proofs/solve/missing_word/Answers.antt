@@ -1,3 +1,4 @@
+-- A turn takes one missing position out of the sums. Assumes nothing.
 use Rattle.std.proofs.Common.{◌≡◌, ℕ, ◌+◌, ◌<◌, ◌≤◌, List, length, get_or, take, false, sym, ap, ◌∙◌, subst, subst₂, inl, inr, arith, rules, bit_xor}
 use Rattle.std.proofs.lemmas.List.{length-take-le, get_or-take}
 use Rattle.codes.proofs.Solving.{Held, held_start, held-skip, held-take, held_end}

@@ -1,3 +1,4 @@
+-- The words that the closure reads are those of the column. Assumes nothing.
 use Rattle.std.proofs.Common.{◌≡◌, ℕ, zero-add, rules}
 use Rattle.columns.specs.Columns.{word_at}
 use Rattle.codes.proofs.Made.{made_at}

@@ -1,3 +1,4 @@
+-- The laws of both fields, from one argument. Assumes nothing.
 use Rattle.field.specs.TwoFields.{field16, field8, differ16, differ8}
 use Rattle.field.proofs.laws.fields_stand.Goals as goal
 

@@ -1,3 +1,4 @@
+-- The two bytes of a word, each times four bits. Assumes nothing.
 use Rattle.std.proofs.Common.{◌≡◌, ◌*◌, ◌/◌, ◌%◌, ◌<◌, sym, ap, ◌∙◌, subst, ap₂, arith, bit_xor, get_or, rules}
 use Rattle.field.specs.Polynomials.{times}
 use Rattle.field.proofs.Additive.{nibble-bytes, nibble-lt}

@@ -1,3 +1,4 @@
+-- Four products of four bits are the whole product. Assumes nothing.
 use Rattle.std.proofs.Common.{◌*◌, ◌<◌, ap, ◌∙◌, ap₂, arith}
 use Rattle.std.proofs.Common.{bit_xor}
 use Rattle.field.proofs.Additive.{back, product_by_tables}

@@ -1,3 +1,4 @@
+-- A turn doubles once more. Assumes nothing.
 use Rattle.std.proofs.Common.{sym, refl, ap, ◌∙◌, add-one}
 use Rattle.field.specs.Polynomials.{word_product}
 use Rattle.field.specs.Sums.{power}

@@ -1,3 +1,4 @@
+-- The word is a power of 2. Assumes nothing.
 use Rattle.std.proofs.Common.{◌≡◌}
 use Rattle.field.specs.Polynomials.{word_product}
 use Rattle.field.specs.Sums.{power}

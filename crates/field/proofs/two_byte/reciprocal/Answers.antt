@@ -1,3 +1,4 @@
+-- A turn squares once more; the last product is the inverse. Assumes nothing.
 use Rattle.std.proofs.Common.{◌<◌, arith}
 use Rattle.field.proofs.WordSteps.{squares-start, squares-step, squares_end}
 use Rattle.field.proofs.two_byte.reciprocal.Goals as goal

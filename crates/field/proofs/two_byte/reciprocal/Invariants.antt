@@ -1,3 +1,4 @@
+-- The square and the product are powers of the word. Assumes nothing.
 use Rattle.std.proofs.Common.{◌≡◌, ◌-◌, ◌<◌}
 use Rattle.field.specs.Polynomials.{squares, word_inverse}
 use Rattle.field.specs.Polynomials.{word_product}

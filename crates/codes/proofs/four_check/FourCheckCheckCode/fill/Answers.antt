@@ -1,3 +1,4 @@
+-- The four sums fill the words that are missing. Assumes nothing.
 use Rattle.std.proofs.Common.{◌≡◌, ℕ, ◌<◌, length, get_or, sym, ◌∙◌, lit≤, rules}
 use Rattle.codes.specs.TwoCodes.{four_check}
 use Rattle.field.specs.Polynomials.{word_product}

@@ -1,3 +1,4 @@
+-- The sum of seventeen words fills the one that is missing. Assumes nothing.
 use Rattle.std.proofs.Common.{◌≡◌, ℕ, zero, suc, ◌<◌, List, [], ◌∷◌, length, get_or, take, sym, ap, ◌∙◌, arith, lit≤, rules}
 use Rattle.field.specs.Polynomials.{word_product}
 use Rattle.std.proofs.lemmas.List.{length-take-le, get_or-take}
