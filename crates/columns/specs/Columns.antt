@@ -3,6 +3,7 @@
 --   work_len               the bytes of a work area; judged_work n refuses another number with 1
 --   word_at work i c       word c of the block at position i: two bytes, the low one first
 --   column work c          word c of each of the twenty positions: data blocks 0 to 15, check blocks from 16 on
+--   is_under first n q     byte q of a work area is under a word of the n blocks from position first on
 --   is_check r q           byte q of a work area is under a check word
 --   check_at code work j c the check word j of column c
 --   right_column           the right column for column c, if there is one, where some positions are marked missing
@@ -30,8 +31,11 @@ unfoldable pub column : List ℕ → ℕ → List ℕ
 column work c = map (λ i. word_at work i c) (range_with_len 0 20)
 
 -- a block has 4,114 words under check words: its first 8,228 bytes
+abbrev pub is_under : ℕ → ℕ → ℕ → Bool
+is_under first n q = nat_le first (q / 8256) && (nat_lt (q / 8256) (first + n) && nat_lt (q % 8256) 8228)
+
 abbrev pub is_check : ℕ → ℕ → Bool
-is_check r q = nat_le 16 (q / 8256) && (nat_lt (q / 8256) (16 + r) && nat_lt (q % 8256) 8228)
+is_check r q = is_under 16 r q
 
 abbrev pub check_at : Code → List ℕ → ℕ → ℕ → ℕ
 check_at code work j c = slice_index (code.checks (take 16 (column work c))) j

@@ -5,7 +5,7 @@ ghost use Rattle.codes.specs.Rebuild.{rebuilt};
 ghost use Rattle.codes.specs.Filling.{missing_count};
 ghost use Rattle.columns.specs.Columns.{column, right_column};
 
-use crate::words::{put_word, words_at};
+use crate::words::{put_words, words_at};
 use codes::CheckCode;
 use refusal::{Refusal, WORK_LEN};
 
@@ -16,9 +16,7 @@ fn put_column(work: &mut [u8; WORK_LEN], c: usize, words: [u16; 20])
     ensures others { (k : ℕ) → k < 4114 → k ≢ c → column work.new k ≡ column work.old k }
     ensures uncovered { (q : ℕ) → 8228 ≤ q % 8256 → slice_index work.new q ≡ slice_index work.old q }
 {
-    for (i, word) in words.iter().enumerate() {
-        put_word(work, i, c, *word);
-    }
+    put_words(work, 0, c, &words);
 }
 
 // Rebuilds column c, if there is a right one.

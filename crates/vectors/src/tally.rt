@@ -4,6 +4,7 @@ ghost use Rattle.vectors.specs.Counting.{more, wrong_after};
 
 use std::{fmt, io};
 
+// Each trial program counts for itself: a crate for two numbers would be longer than they are.
 #[derive(Drop)]
 pub struct Tally<'a> {
     rt: &'a HostRuntime,
