@@ -7,29 +7,9 @@ lowest. The checker computes each entry from its rule, so a fault in this script
 """
 import os
 
+from words import WIDTH, power, product
+
 ROOT = os.path.join(os.path.dirname(os.path.abspath(__file__)), '..', 'crates', 'check_groups')
-WIDTH, POLYNOMIAL = 16, 0x1100B
-
-
-def product(a, b):
-    r = 0
-    for i in reversed(range(WIDTH)):
-        r <<= 1
-        if r >> WIDTH:
-            r ^= POLYNOMIAL
-        if (b >> i) & 1:
-            r ^= a
-    return r
-
-
-def power(a, n):
-    r = 1
-    while n:
-        if n & 1:
-            r = product(r, a)
-        a = product(a, a)
-        n >>= 1
-    return r
 
 
 def numbers():

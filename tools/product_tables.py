@@ -8,8 +8,9 @@ The checker computes each entry from its rule, so a fault in this script cannot 
 """
 import os
 
+from words import POLYNOMIAL, power
+
 ROOT = os.path.join(os.path.dirname(os.path.abspath(__file__)), '..', 'crates', 'field')
-POLYNOMIAL = 0x1100B
 
 
 def unreduced(a, b):
@@ -29,18 +30,8 @@ def reduced(v):
     return v
 
 
-def product(a, b):
-    return reduced(unreduced(a, b))
-
-
 def inverse(a):
-    r, n = 1, 2 ** 16 - 2
-    while n:
-        if n & 1:
-            r = product(r, a)
-        a = product(a, a)
-        n >>= 1
-    return r
+    return power(a, 2 ** 16 - 2)
 
 
 def row(entries, digits):
