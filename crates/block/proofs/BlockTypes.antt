@@ -1,14 +1,32 @@
 -- Block Types and their numbers. Assumes nothing.
-use Rattle.std.proofs.Common.{◌≡◌, ℕ, ◌%◌, refl, ap, ◌∙◌, arith}
-use Rattle.block.specs.BlockType.{type_of, NumbersKept, TypesKept}
+use Rattle.std.proofs.Common.{◌≡◌, ℕ, zero, suc, ◌%◌, ◌<◌, refl, ap, mod-lt, lit<, arith}
+use Rattle.block.specs.BlockType.{number_of, type_below, type_of, NumbersKept, TypesKept}
+use Rattle.block.specs.declared.block_type.BlockType.TheVariants.{Other0, Data, Other2, Other3, End, Check, Other6, Other7}
 
 -- only the low three bits count
 pub type_low : (n : ℕ) → type_of (n % 8) ≡ type_of n
-type_low n = let e : n % 8 % 8 ≡ n % 8 = omega arith in rw e refl
+type_low n = let e : n % 8 % 8 ≡ n % 8 = omega arith in ap type_below e
+
+below_again : (n : ℕ) → n < 8 → number_of (type_below n) ≡ n
+below_again zero h = refl
+below_again (suc zero) h = refl
+below_again (suc (suc zero)) h = refl
+below_again (suc (suc (suc zero))) h = refl
+below_again (suc (suc (suc (suc zero)))) h = refl
+below_again (suc (suc (suc (suc (suc zero))))) h = refl
+below_again (suc (suc (suc (suc (suc (suc zero)))))) h = refl
+below_again (suc (suc (suc (suc (suc (suc (suc zero))))))) h = refl
+below_again (suc (suc (suc (suc (suc (suc (suc (suc n)))))))) h = absurd (omega arith)
 
 pub number_again : NumbersKept
-number_again n = grind arith
+number_again n = below_again (n % 8) (mod-lt n (lit< tt))
 
--- a type that some number stands for
 pub type_again : TypesKept
-type_again n = ap type_of (number_again n) ∙ type_low n
+type_again Other0 = refl
+type_again Data = refl
+type_again Other2 = refl
+type_again Other3 = refl
+type_again End = refl
+type_again Check = refl
+type_again Other6 = refl
+type_again Other7 = refl

@@ -2,7 +2,7 @@
 use Rattle.std.proofs.Common.{◌≡◌, ℕ, ◌*◌, ◌/◌, ◌^◌, [], ◌∷◌, length, get_or, take, drop, sym, refl, ap, ◌∙◌, mod-lt, lit<, arith, ◌%◌}
 use Rattle.bits.specs.Fields.{encode, value, split, join, AllBytes}
 use Rattle.block.specs.BlockType.{number_of, type_of}
-use Rattle.block.proofs.BlockTypes.{number_again}
+use Rattle.block.proofs.BlockTypes.{number_again, type_again}
 use Rattle.block.specs.Control.{
   widths1,
   fields1,
@@ -23,7 +23,7 @@ use Rattle.block.specs.declared.control1.Control1.{Control1}
 use Rattle.block.specs.declared.control2.Control2.{Control2}
 use Rattle.bits.proofs.BitLaws.{decode_encode, encode_decode, bytes_all, flag-bit, bit-flag}
 
-control1-fields : (c : Control1) → from_fields1 (fields1 c) ≡ record c { kind = type_of (number_of c.kind) }
+control1-fields : (c : Control1) → from_fields1 (fields1 c) ≡ c
 control1-fields c = λ i. record {
   reserved = c.reserved;
   format = c.format;
@@ -33,7 +33,7 @@ control1-fields c = λ i. record {
   sequence = c.sequence;
   file_mark_offset = c.file_mark_offset;
   file_mark_number = c.file_mark_number;
-  kind = type_of (number_of c.kind);
+  kind = type_again c.kind i;
   early_warning = flag-bit c.early_warning i;
   entities = c.entities;
   back = c.back;

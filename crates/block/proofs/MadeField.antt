@@ -4,8 +4,8 @@ use lib.ListN.{length-replicate}
 use Rattle.std.proofs.lemmas.List.{take_at, drop_at, append_assoc, get_or-drop, get_or-take}
 use Rattle.bits.specs.Fields.{AllBytes}
 use Rattle.bits.proofs.BitLaws.{decode_narrows}
-use Rattle.block.specs.BlockType.{number_of, type_of}
-use Rattle.block.proofs.BlockTypes.{type_low}
+use Rattle.block.specs.BlockType.{number_of}
+use Rattle.block.proofs.BlockTypes.{type_low, type_again}
 use Rattle.block.specs.Control.{widths1, fields1, from_fields1, bytes1, control1_of, bytes2, control2_of}
 use Rattle.block.specs.Edc.{edc}
 use Rattle.block.specs.Block.{zeros, word_bytes, sealed, field_block, data_field, control1_at, crc_agrees, edc_agrees, sound_kind}
@@ -22,10 +22,11 @@ word_sum : (w : ℕ) → w < 65536 → w ≡ w % 256 + w / 256 % 256 * 256
 word_sum w h = omega arith
 
 -- the type that Control Field 1 keeps
-kind-kept : (c : Control1) → type_of (number_of c.kind) ≡ c.kind → (control1_of (bytes1 c)).kind ≡ c.kind
+kind-kept : (c : Control1) → (control1_of (bytes1 c)).kind ≡ c.kind
 unfolding bytes1 control1_of
-kind-kept c h =
-    ap (λ (f : List ℕ). (from_fields1 f).kind) (decode_narrows widths1 (fields1 c) 20 refl refl) ∙ type_low (number_of c.kind) ∙ h
+kind-kept c =
+    ap (λ (f : List ℕ). (from_fields1 f).kind) (decode_narrows widths1 (fields1 c) 20 refl refl)
+    ∙ type_low (number_of c.kind) ∙ type_again c.kind
 
 module _ (field : List ℕ) (c1 : Control1) (c2 : Control2) (l : length field ≡ 8208) where
   edge : List ℕ
@@ -113,9 +114,9 @@ module _ (field : List ℕ) (c1 : Control1) (c2 : Control2) (l : length field �
         ),
       )
 
-  pub field-made : AllBytes field → type_of (number_of c1.kind) ≡ c1.kind → sound_kind c1.kind true ≡ true → Made (field_block field c1 c2) c1 c2
-  field-made a h k =
-      let kept : (control1_at (field_block field c1 c2)).kind ≡ c1.kind = ap (λ (t : List ℕ). (control1_of t).kind) first-bytes ∙ kind-kept c1 h in
+  pub field-made : AllBytes field → sound_kind c1.kind true ≡ true → Made (field_block field c1 c2) c1 c2
+  field-made a k =
+      let kept : (control1_at (field_block field c1 c2)).kind ≡ c1.kind = ap (λ (t : List ℕ). (control1_of t).kind) first-bytes ∙ kind-kept c1 in
       record {
         long = ap length block_is ∙ sealed-long body body-length;
         proper = subst AllBytes (sym block_is) (sealed-proper body body-length (body-proper a));
@@ -124,13 +125,13 @@ module _ (field : List ℕ) (c1 : Control1) (c2 : Control2) (l : length field �
             (sym (ap crc_agrees block_is ∙ sealed-agrees body body-length))
             (sym (ap₂ sound_kind kept (edc_back a) ∙ k)));
         kind = kept;
-        first = λ w. ap control1_of first-bytes ∙ control1_decodes c1 w ∙ ap (λ t. record c1 { kind = t }) h;
+        first = λ w. ap control1_of first-bytes ∙ control1_decodes c1 w;
         second = λ w. ap control2_of second-bytes ∙ control2_decodes c2 w;
       }
 
 pub data_blocks_made : DataBlocksMade
 data_blocks_made field h c2 l a =
-    (field-made field (data_control h) c2 l a refl refl, field_back field (data_control h) c2 l)
+    (field-made field (data_control h) c2 l a refl, field_back field (data_control h) c2 l)
 
 zeros-proper : (n : ℕ) → AllBytes (zeros n)
 unfolding zeros
@@ -143,6 +144,6 @@ length-zeros n = length-replicate n 0
 
 pub end_blocks_made : EndBlocksMade
 end_blocks_made h = (
-  field-made (zeros 8208) (end_control h) (end_place h) (length-zeros 8208) (zeros-proper 8208) refl refl,
+  field-made (zeros 8208) (end_control h) (end_place h) (length-zeros 8208) (zeros-proper 8208) refl,
   field_back (zeros 8208) (end_control h) (end_place h) (length-zeros 8208),
 )

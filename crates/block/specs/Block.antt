@@ -20,7 +20,7 @@ use Rattle.block.specs.Control.{bytes1, control1_of, bytes2, control2_of}
 use Rattle.block.specs.Edc.{edc}
 use Rattle.block.specs.Made.{data_control, check_control, end_control, end_place}
 use Rattle.block.specs.declared.block_type.BlockType.{BlockType}
-use Rattle.block.specs.declared.block_type.BlockType.TheVariants.{Data, End, Check, Other}
+use Rattle.block.specs.declared.block_type.BlockType.TheVariants.{Data, End, Check}
 use Rattle.block.specs.declared.control1.Control1.{Control1}
 use Rattle.block.specs.declared.control2.Control2.{Control2}
 use Rattle.block.specs.declared.header.DataHeader.{DataHeader}
@@ -78,10 +78,7 @@ edc_agrees b = edc (data_field b) == slice_index b 8208 + slice_index b 8209 * 2
 
 -- whether a block of this type may be sound, by whether its EDC agrees
 abbrev pub sound_kind : BlockType → Bool → Bool
-sound_kind Data agrees = agrees
-sound_kind End agrees = agrees
-sound_kind Check agrees = true
-sound_kind (Other n) agrees = false
+sound_kind t agrees = elim t [ Data ↦ agrees | End ↦ agrees | Check ↦ true | _ ↦ false ]
 
 unfoldable pub sound : List ℕ → Bool
 sound b = crc_agrees b && sound_kind (control1_at b).kind (edc_agrees b)

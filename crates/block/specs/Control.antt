@@ -69,9 +69,9 @@ from_fields2 f = record {
 unfoldable pub control2_of : List ℕ → Control2
 control2_of bs = from_fields2 (decode widths2 bs)
 
--- A control field within its widths comes back, its Block Type as the one that its number stands for, from its bytes, and bytes come back from the fields they hold.
+-- A control field within its widths comes back from its bytes, and bytes come back from the fields they hold.
 abbrev pub Control1Decodes : Type 0
-Control1Decodes = (c : Control1) → Within widths1 (fields1 c) → control1_of (bytes1 c) ≡ record c { kind = type_of (number_of c.kind) }
+Control1Decodes = (c : Control1) → Within widths1 (fields1 c) → control1_of (bytes1 c) ≡ c
 
 abbrev pub Control1Encodes : Type 0
 Control1Encodes = (bs : List ℕ) → length bs ≡ 20 → AllBytes bs → bytes1 (control1_of bs) ≡ bs

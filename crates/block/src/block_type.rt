@@ -2,17 +2,22 @@
 ghost use Rattle.std.specs.Prelude.{◌≡◌};
 ghost use Rattle.block.specs.BlockType.{type_of, number_of};
 
-// Its own enum beside the type of a page: a trait for both would be longer than what they share.
+// Its own enum beside the type of a page: a trait for both would be longer than what they share. It has a case for each
+// number, in their order, so that each type has a number of its own and comes back from it.
 #[derive(Clone, Copy, PartialEq, Eq, Debug)]
 pub enum BlockType {
+    // 0: no block of this format, as all that are called `Other`.
+    Other0,
     // 1: it holds pages.
     Data,
+    Other2,
+    Other3,
     // 4: it stands behind the last data.
     End,
     // 5: it holds check words.
     Check,
-    // Any other number: no block of this format.
-    Other(u8),
+    Other6,
+    Other7,
 }
 
 // Where nothing is said the bits are ZERO.
@@ -20,7 +25,7 @@ impl Default for BlockType {
     ghost is_default = { λ t. t ≡ type_of 0 };
 
     fn default() -> BlockType {
-        BlockType::Other(0)
+        BlockType::from(0)
     }
 }
 
@@ -31,9 +36,13 @@ impl From<u8> for BlockType {
     fn from(number: u8) -> BlockType {
         match number % 8 {
             1 => BlockType::Data,
+            2 => BlockType::Other2,
+            3 => BlockType::Other3,
             4 => BlockType::End,
             5 => BlockType::Check,
-            other => BlockType::Other(other),
+            6 => BlockType::Other6,
+            7 => BlockType::Other7,
+            _ => BlockType::Other0,
         }
     }
 }
@@ -43,10 +52,14 @@ impl From<BlockType> for u8 {
 
     fn from(kind: BlockType) -> u8 {
         match kind {
+            BlockType::Other0 => 0,
             BlockType::Data => 1,
+            BlockType::Other2 => 2,
+            BlockType::Other3 => 3,
             BlockType::End => 4,
             BlockType::Check => 5,
-            BlockType::Other(number) => number,
+            BlockType::Other6 => 6,
+            BlockType::Other7 => 7,
         }
     }
 }

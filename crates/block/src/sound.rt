@@ -60,7 +60,7 @@ fn kind_agrees(block: &[u8; BLOCK_LEN], kind: BlockType) -> bool
     match kind {
         BlockType::Data | BlockType::End => edc_agrees(block),
         BlockType::Check => true,
-        BlockType::Other(_) => false,
+        _ => false,
     }
 }
 

@@ -4,15 +4,15 @@ use Rattle.bits.specs.Fields.{join, split, bytes, value, encode, decode, bit}
 use Rattle.pages.specs.PageType.{type_of, number_of}
 use Rattle.pages.specs.Entry.{entry_widths, entry_fields, from_entry_fields, entry_bytes, entry_of, EntryDecodes, EntryEncodes}
 use Rattle.pages.specs.declared.entry.Entry.{Entry}
-use Rattle.pages.proofs.PageTypes.{number_again}
+use Rattle.pages.proofs.PageTypes.{number_again, type_again}
 use Rattle.bits.proofs.BitLaws.{decode_encode, encode_decode}
 use Rattle.bits.proofs.Groups.{group, degroup, degroup_last}
 use Rattle.bits.proofs.Digits.{bytes_two, bytes_four, encode_one, decode_one}
 use Rattle.bits.proofs.BitLaws.{flag-bit, bit-flag}
 
-entry_fields_lem : (e : Entry) → from_entry_fields (entry_fields e) ≡ record e { kind = type_of (number_of e.kind) }
+entry_fields_lem : (e : Entry) → from_entry_fields (entry_fields e) ≡ e
 entry_fields_lem e = λ i. record {
-  kind = type_of (number_of e.kind);
+  kind = type_again e.kind i;
   next = flag-bit e.next i;
   prev = flag-bit e.prev i;
   last = flag-bit e.last i;

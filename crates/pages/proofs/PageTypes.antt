@@ -1,14 +1,28 @@
 -- Page Types and their numbers. Assumes nothing.
-use Rattle.std.proofs.Common.{◌≡◌, ℕ, ◌%◌, refl, ap, ◌∙◌, arith}
-use Rattle.pages.specs.PageType.{type_of, NumbersKept, TypesKept}
+use Rattle.std.proofs.Common.{◌≡◌, ℕ, zero, suc, ◌%◌, ◌<◌, refl, mod-lt, lit<, arith}
+use Rattle.pages.specs.PageType.{number_of, type_below, NumbersKept, TypesKept}
+use Rattle.pages.specs.declared.page_type.PageType.TheVariants.{Other0, Filler, Data, TapeMark, Other4, Other5, Other6, Other7}
 
--- only the low three bits count
-type_low : (n : ℕ) → type_of (n % 8) ≡ type_of n
-type_low n = let e : n % 8 % 8 ≡ n % 8 = omega arith in rw e refl
+below_again : (n : ℕ) → n < 8 → number_of (type_below n) ≡ n
+below_again zero h = refl
+below_again (suc zero) h = refl
+below_again (suc (suc zero)) h = refl
+below_again (suc (suc (suc zero))) h = refl
+below_again (suc (suc (suc (suc zero)))) h = refl
+below_again (suc (suc (suc (suc (suc zero))))) h = refl
+below_again (suc (suc (suc (suc (suc (suc zero)))))) h = refl
+below_again (suc (suc (suc (suc (suc (suc (suc zero))))))) h = refl
+below_again (suc (suc (suc (suc (suc (suc (suc (suc n)))))))) h = absurd (omega arith)
 
 pub number_again : NumbersKept
-number_again n = grind arith
+number_again n = below_again (n % 8) (mod-lt n (lit< tt))
 
--- a type that some number stands for
 pub type_again : TypesKept
-type_again n = ap type_of (number_again n) ∙ type_low n
+type_again Other0 = refl
+type_again Filler = refl
+type_again Data = refl
+type_again TapeMark = refl
+type_again Other4 = refl
+type_again Other5 = refl
+type_again Other6 = refl
+type_again Other7 = refl

@@ -31,11 +31,10 @@ from_entry_fields f = record {
 unfoldable pub entry_of : List ℕ → Entry
 entry_of bs = from_entry_fields (decode entry_widths bs)
 
--- An entry within its widths comes back from its bytes, its type as the one that its number stands for, and bytes come
--- back from the entry they hold.
+-- An entry within its widths comes back from its bytes, and bytes come back from the entry they hold.
 abbrev pub EntryDecodes : Type 0
 EntryDecodes =
-    (e : Entry) → Within entry_widths (entry_fields e) → entry_of (entry_bytes e) ≡ record e { kind = type_of (number_of e.kind) }
+    (e : Entry) → Within entry_widths (entry_fields e) → entry_of (entry_bytes e) ≡ e
 
 abbrev pub EntryEncodes : Type 0
 EntryEncodes = (bs : List ℕ) → length bs ≡ 8 → AllBytes bs → entry_bytes (entry_of bs) ≡ bs

@@ -68,12 +68,12 @@ fn slots(field: &[u8; FIELD_LEN]) -> &[[u8; ENTRY_LEN]]
 fn judge_entry(free: usize, first: bool, e: Entry) -> Option<Step>
     ensures { result ≡ map_step free first e }
 {
-    let rest = free.checked_sub(usize::from(e.count) + ENTRY_LEN)?;
-    if !is_lawful(first, e) {
+    let taken = usize::from(e.count) + ENTRY_LEN;
+    if !is_lawful(first, e) || taken > free {
         None
     } else if !e.last {
-        Some(Step::Next(rest))
-    } else if rest <= MAX_FREE {
+        Some(Step::Next(free - taken))
+    } else if free - taken <= MAX_FREE {
         Some(Step::Last)
     } else {
         None
@@ -84,15 +84,16 @@ fn judge_entry(free: usize, first: bool, e: Entry) -> Option<Step>
 fn is_lawful(first: bool, e: Entry) -> bool
     ensures { result ≡ lawful_entry first e }
 {
-    let data = e.kind == PageType::Data;
     !e.compressed
         && e.reserved == 0
         && 1 <= e.count
-        && (!e.prev || (first && data))
-        && (!e.next || (e.last && data))
         && match e.kind {
-            PageType::Data => (1..=MAX_RECORD).contains(&e.total),
-            PageType::Filler | PageType::TapeMark => e.last && e.total == 0,
-            PageType::Other(_) => false,
+            PageType::Data => {
+                (!e.prev || first) && (!e.next || e.last) && 1 <= e.total && e.total <= MAX_RECORD
+            }
+            PageType::Filler | PageType::TapeMark => {
+                !e.prev && !e.next && e.last && e.total == 0
+            }
+            _ => false,
         }
 }

@@ -65,6 +65,6 @@ fn cut(field: &[u8], e: Entry, place: usize) -> Page<'_>
             place,
         },
         PageType::TapeMark => Page::TapeMark { place, count },
-        PageType::Filler | PageType::Other(_) => Page::Filler { place, count },
+        _ => Page::Filler { place, count },
     }
 }

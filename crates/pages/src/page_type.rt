@@ -2,17 +2,22 @@
 ghost use Rattle.std.specs.Prelude.{◌≡◌};
 ghost use Rattle.pages.specs.PageType.{number_of, type_of};
 
-// Its own enum beside the type of a block: a trait for both would be longer than what they share.
+// Its own enum beside the type of a block: a trait for both would be longer than what they share. It has a case for each
+// number, in their order, so that each type has a number of its own and comes back from it.
 #[derive(Clone, Copy, PartialEq, Eq, Debug)]
 pub enum PageType {
+    // 0: no page of this format, as all that are called `Other`.
+    Other0,
     // 1: bytes that only fill the block up.
     Filler,
     // 2: bytes of a record.
     Data,
     // 3: a tape mark.
     TapeMark,
-    // Any other number: no page of this format.
-    Other(u8),
+    Other4,
+    Other5,
+    Other6,
+    Other7,
 }
 
 // Where nothing is said the bits are ZERO.
@@ -20,7 +25,7 @@ impl Default for PageType {
     ghost is_default = { λ t. t ≡ type_of 0 };
 
     fn default() -> PageType {
-        PageType::Other(0)
+        PageType::from(0)
     }
 }
 
@@ -33,7 +38,11 @@ impl From<u8> for PageType {
             1 => PageType::Filler,
             2 => PageType::Data,
             3 => PageType::TapeMark,
-            other => PageType::Other(other),
+            4 => PageType::Other4,
+            5 => PageType::Other5,
+            6 => PageType::Other6,
+            7 => PageType::Other7,
+            _ => PageType::Other0,
         }
     }
 }
@@ -43,10 +52,14 @@ impl From<PageType> for u8 {
 
     fn from(kind: PageType) -> u8 {
         match kind {
+            PageType::Other0 => 0,
             PageType::Filler => 1,
             PageType::Data => 2,
             PageType::TapeMark => 3,
-            PageType::Other(number) => number,
+            PageType::Other4 => 4,
+            PageType::Other5 => 5,
+            PageType::Other6 => 6,
+            PageType::Other7 => 7,
         }
     }
 }

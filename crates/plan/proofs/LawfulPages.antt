@@ -1,9 +1,9 @@
 -- What a lawful entry says of its fields, and that the three kinds of page have lawful entries. Assumes nothing.
 use Rattle.std.proofs.Common.{◌≡◌, ℕ, ◌<◌, ◌≤◌, Bool, true, false, cond, not, ◌&&◌, ◌||◌, T, eqb, ltb, leb, arith, lit<, refl, le→leb, eqb→eq, leb→le}
 use Rattle.bits.specs.Fields.{bit, Within}
-use Rattle.pages.specs.PageType.{number_of, type_of, is_known}
+use Rattle.pages.specs.PageType.{number_of, is_known}
 use Rattle.pages.specs.declared.page_type.PageType.{PageType}
-use Rattle.pages.specs.declared.page_type.PageType.TheVariants.{Filler, Data, TapeMark, Other}
+use Rattle.pages.specs.declared.page_type.PageType.TheVariants.{Filler, Data, TapeMark, Other0, Other4, Other5, Other6, Other7}
 use Rattle.pages.specs.Entry.{entry_widths, entry_fields}
 use Rattle.pages.specs.Map.{is_data, lawful_entry}
 use Rattle.pages.specs.declared.entry.Entry.{Entry}
@@ -58,14 +58,11 @@ known_small : (t : PageType) → T (is_known t) → number_of t < 8
 known_small Filler k = lit< tt
 known_small Data k = lit< tt
 known_small TapeMark k = lit< tt
-known_small (Other n) k = absurd k
-
--- the number of a known type stands for it
-pub known-back : (t : PageType) → T (is_known t) → type_of (number_of t) ≡ t
-known-back Filler k = refl
-known-back Data k = refl
-known-back TapeMark k = refl
-known-back (Other n) k = absurd k
+known_small Other0 k = absurd k
+known_small Other4 k = absurd k
+known_small Other5 k = absurd k
+known_small Other6 k = absurd k
+known_small Other7 k = absurd k
 
 pub entry_within : (head last : Bool) (pg : PlannedPage) → T (lawful_entry head (entry_for pg last)) → pg.count < 65536
     → Within entry_widths (entry_fields (entry_for pg last))

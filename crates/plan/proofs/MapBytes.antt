@@ -4,7 +4,6 @@ use Rattle.std.proofs.lemmas.List.{take_at, drop_at}
 use Rattle.std.specs.List.{range_with_len}
 use Rattle.bits.specs.Fields.{Within}
 use Rattle.block.specs.Block.{zeros}
-use Rattle.pages.specs.PageType.{number_of, type_of}
 use Rattle.pages.specs.Entry.{entry_widths, entry_fields, entry_bytes, entry_of}
 use Rattle.pages.specs.Map.{entry_at, lawful_entry, map_step, map_from, map_size}
 use Rattle.pages.specs.declared.entry.Entry.{Entry}
@@ -17,7 +16,7 @@ use Rattle.plan.specs.DataFields.{is_empty, entry_for, entries, page_entries, us
 use Rattle.plan.specs.DataFields.{page_bytes, page_sizes, field_of}
 use Rattle.plan.specs.Following.{entries_of}
 use Rattle.plan.specs.Laws.{Laid, MapReadsBack}
-use Rattle.plan.proofs.LawfulPages.{law, entry_within, known-back}
+use Rattle.plan.proofs.LawfulPages.{entry_within}
 use Rattle.plan.proofs.Truth.{is_true, T_and}
 use Rattle.plan.proofs.FieldLengths.{length-entry, laid_sizes, length-field}
 
@@ -42,9 +41,9 @@ more-step e first free t l h =
 -- the entry of the first page stands behind those of the later ones
 entry_here : (pg : PlannedPage) (pgs : List PlannedPage) (i : ℕ) (front tail field : List ℕ)
     → field ≡ front ++ (entries (pg ∷ pgs) ++ tail) → length field ≡ 8208 → length tail ≡ 8 * i
-    → Within entry_widths (entry_fields (entry_for pg (is_empty pgs))) → type_of (number_of pg.kind) ≡ pg.kind
+    → Within entry_widths (entry_fields (entry_for pg (is_empty pgs)))
     → entry_at field i ≡ entry_for pg (is_empty pgs)
-entry_here pg pgs i front tail field e hl ht w k =
+entry_here pg pgs i front tail field e hl ht w =
     let eb : List ℕ = entry_bytes (entry_for pg (is_empty pgs)) in
     let e' : field ≡ (front ++ entries pgs) ++ (eb ++ tail) =
     e ∙ ap (λ (x : List ℕ). front ++ x) (append_assoc (entries pgs) eb tail)
@@ -60,7 +59,7 @@ entry_here pg pgs i front tail field e hl ht w k =
     ap (λ (x : List ℕ). entry_of (take 8 (drop (8208 - 8 * (i + 1)) x))) e'
     ∙ ap (λ (x : List ℕ). entry_of (take 8 x)) (drop_at (front ++ entries pgs) (eb ++ tail) (8208 - 8 * (i + 1)) n)
     ∙ ap entry_of (take_at eb tail 8 (length-entry (entry_for pg (is_empty pgs))))
-    ∙ entry_decodes (entry_for pg (is_empty pgs)) w ∙ ap (λ t. record (entry_for pg (is_empty pgs)) { kind = t }) k
+    ∙ entry_decodes (entry_for pg (is_empty pgs)) w
 
 -- ---- the map from entry i on, where pages stand with their entries before those of `tail`
 
@@ -77,7 +76,6 @@ entry_stands : (pg : PlannedPage) (pgs : List PlannedPage) (head : Bool) (free i
 entry_stands pg pgs head free i front tail field s =
     entry_here pg pgs i front tail field s.whole s.long s.behind
     (entry_within head (is_empty pgs) pg s.laid.0 (omega (arith, s.small, s.laid.1)))
-    (known-back pg.kind (law head (entry_for pg (is_empty pgs)) s.laid.0).known)
 
 pub not_first : (i : ℕ) → eqb (i + 1) 0 ≡ false
 not_first i = ne_eqb (i + 1) 0 (λ e. let z : i + 1 ≡ 0 = e in omega arith)
