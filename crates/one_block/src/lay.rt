@@ -23,7 +23,8 @@ impl fmt::Display for DoesNotFit {
 
 impl Error for DoesNotFit {}
 
-// Lays the records out, and Filler behind them.
+// Lays the records out, and Filler behind them. Never inlined: `main` would hold the block a third time.
+#[inline(never)]
 pub fn lay(records: &[Vec<u8>]) -> Result<[u8; BLOCK_LEN], DoesNotFit>
     ensures { result_ok result ≡ laid_out (map (λ v. v.items) records.now) }
 {

@@ -9,7 +9,7 @@ mod records;
 mod report;
 
 use lay::lay;
-use records::read_records;
+use records::{Records, read_records};
 use report::show;
 
 // Each line of the input gives the records of one block.
@@ -17,17 +17,17 @@ fn main(rt: HostRuntime) -> io::Result<()> {
     for line in rt.lines(rt.alloc()) {
         let line = line?;
         let records = read_records(rt.alloc(), line.as_str())?;
-        if !records.is_empty() {
+        if records.count > 0 {
             one_block(&rt, &records)?;
         }
     }
     Ok(())
 }
 
-fn one_block(rt: &HostRuntime, records: &[Vec<u8>]) -> io::Result<()> {
-    println!(rt; "records {}", records.len())?;
-    match lay(records) {
-        Ok(mut block) => show(rt, &mut block, records),
+fn one_block(rt: &HostRuntime, records: &Records) -> io::Result<()> {
+    println!(rt; "records {}", records.count)?;
+    match lay(&records.kept) {
+        Ok(mut block) => show(rt, &mut block, &records.kept),
         Err(why) => println!(rt; "error: {why}"),
     }
 }
