@@ -19,7 +19,7 @@ fn skip_on<C: Card + Drop>(
     if let Err(e) = judge_list(&card, list) {
         return println!(rt; "{name}: {e}");
     }
-    let left = below.without(rt.alloc(), list)?;
+    let left = below.without(list);
     run(rt, name, SkipCard::new(card, list), left)
 }
 
@@ -30,7 +30,7 @@ fn skip_twice<C: Card + Drop>(rt: &HostRuntime, card: C, below: &Model) -> io::R
     if let Err(e) = judge_list(&card, &list) {
         return println!(rt; "{name}: {e}");
     }
-    let left = below.without(rt.alloc(), &list)?;
+    let left = below.without(&list);
     skip_on(rt, name, SkipCard::new(card, &list), &[1, 4], &left)
 }
 
@@ -40,7 +40,7 @@ pub fn skips(rt: &HostRuntime) -> io::Result<()> {
     let mut second = [0; 16516];
     let mut third = [0; 16516];
     let mut fourth = [0; 16516];
-    let mut model = Model::new(rt.alloc(), &[Held::Blank; 8])?;
+    let mut model = Model::new(&[Held::Blank; 8]);
     let mut tracks = FourTrackCard::new(&mut first, &mut second, &mut third, &mut fourth);
     put_each(&mut tracks, &mut model);
     skip_on(rt, "skip on four tracks", tracks, &[0, 3, 4], &model)?;
@@ -81,7 +81,7 @@ fn blocks_of(first: u8, second: u8) -> [u8; 2 * BLOCK_LEN] {
 // Runs of places on a card of four places, from and to a work area of two blocks.
 fn runs_on<C: Card + Drop>(rt: &HostRuntime, card: C) -> io::Result<()> {
     // what the places hold once the copies are put
-    let model = Model::new(rt.alloc(), &[Held::Block(10); 4])?;
+    let model = Model::new(&[Held::Block(10); 4]);
     let mut trial = Trial::new(card, model);
     let mut work = blocks_of(10, 20);
     let copied = put_copies(&mut trial.card, 0, 4, &block(10));

@@ -7,6 +7,8 @@ use crate::trial::run;
 use cards::{FourTrackCard, StripCard};
 use std::io;
 
+// The trials here are never inlined: `main` would hold their memories while it runs the others.
+
 // The byte that no card should write over: it stands behind the rows.
 const BEHIND: u8 = 0xA5;
 
@@ -24,6 +26,7 @@ fn lay(mem: &mut [u8], at: usize, bytes: &[u8])
 
 // The strip card on three rows and 100 bytes: a blank row, a row whose mark differs from a block's in one byte, a
 // row with a block.
+#[inline(never)]
 pub fn strip(rt: &HostRuntime) -> io::Result<()> {
     let mut mem = [BEHIND; 24874];
     lay(&mut mem, 0, b"\x00\x00");
@@ -31,14 +34,14 @@ pub fn strip(rt: &HostRuntime) -> io::Result<()> {
     lay(&mut mem, 16516, b"\xD1\x05");
     lay(&mut mem, 16518, &block(9));
     let held = [Held::Blank, Held::Lost, Held::Block(9)];
-    let model = Model::new(rt.alloc(), &held)?;
+    let model = Model::new(&held);
     run(rt, "strip", StripCard::new(&mut mem), model)?;
     let kept = is_kept(&mem, 24774);
     println!(rt; "strip: bytes behind the rows kept: {kept}")
 }
 
 fn without_rows(rt: &HostRuntime, name: &str, mem: &mut [u8]) -> io::Result<()> {
-    let model = Model::new(rt.alloc(), &[])?;
+    let model = Model::new(&[]);
     run(rt, name, StripCard::new(mem), model)?;
     let kept = is_kept(mem, 0);
     println!(rt; "{name}: kept: {kept}")
@@ -51,13 +54,14 @@ pub fn no_rows(rt: &HostRuntime) -> io::Result<()> {
 }
 
 // The four-track card on memories of 3, 2, 4 and 2 rows: rows and bytes behind the second row stay.
+#[inline(never)]
 pub fn four_track(rt: &HostRuntime) -> io::Result<()> {
     let mut first = [BEHIND; 24779];
     let mut second = [0; 16516];
     let mut third = [BEHIND; 33032];
     let mut fourth = [0; 24773];
     lay(&mut fourth, 16516, &[BEHIND; 8257]);
-    let mut model = Model::new(rt.alloc(), &[Held::Blank; 8])?;
+    let mut model = Model::new(&[Held::Blank; 8]);
     for place in [0, 2, 4, 6] {
         model.hold(place, Held::Lost);
     }
@@ -73,6 +77,7 @@ fn is_row(row: &[u8], mark: &[u8], body: &[u8]) -> bool {
 }
 
 // What lies in two rows and 84 bytes after a put and a strike: the mark is struck, the block bytes stay.
+#[inline(never)]
 pub fn memory(rt: &HostRuntime) -> io::Result<()> {
     let mut mem = [BEHIND; 16600];
     let body = block(77);

@@ -1,8 +1,10 @@
 // The plain model of a card: what each place holds, a block by the seed that its bytes are made from.
 use cards::{BLOCK_LEN, Kind};
 use refusal::Refusal;
-use std::alloc::{AllocError, Global};
 use std::array;
+
+// The most places that a model has.
+const MOST: usize = 16;
 
 #[derive(Clone, Copy, Debug, PartialEq, Eq)]
 pub enum Held {
@@ -11,9 +13,10 @@ pub enum Held {
     Block(u8),
 }
 
-#[derive(Drop)]
+// What each place holds, from the front; nothing behind the last place. No heap, as the cards need none.
+#[derive(Clone, Copy)]
 pub struct Model {
-    held: Vec<Held>,
+    held: [Option<Held>; MOST],
 }
 
 // The byte at an index of the block that a seed makes.
@@ -54,23 +57,23 @@ impl From<Held> for Kind {
 
 impl Model {
     // A model of places that hold this.
-    pub fn new(alloc: Global, held: &[Held]) -> Result<Model, AllocError> {
-        Ok(Model {
-            held: held.to_vec(alloc)?,
-        })
+    pub fn new(held: &[Held]) -> Model {
+        Model {
+            held: array::from_fn(|place| held.get(place).copied()),
+        }
     }
 
     pub fn places(&self) -> usize {
-        self.held.len()
+        self.held.iter().flatten().count()
     }
 
     // What a place holds, if there is one.
     pub fn at(&self, place: usize) -> Option<Held> {
-        self.held.get(place).copied()
+        *self.held.get(place)?
     }
 
     pub fn hold(&mut self, place: usize, held: Held) {
-        if let Some(at) = self.held.get_mut(place) {
+        if let Some(Some(at)) = self.held.get_mut(place) {
             *at = held;
         }
     }
@@ -87,13 +90,16 @@ impl Model {
     }
 
     // The model without the listed places.
-    pub fn without(&self, alloc: Global, list: &[usize]) -> Result<Model, AllocError> {
-        let mut held = Vec::new(alloc);
-        for (place, content) in self.held.iter().enumerate() {
-            if !list.contains(&place) {
-                held.push(*content)?;
-            }
+    pub fn without(&self, list: &[usize]) -> Model {
+        let mut left = Model::new(&[]);
+        let kept = self
+            .held
+            .iter()
+            .enumerate()
+            .filter(|(place, _)| !list.contains(place));
+        for (at, (_, held)) in left.held.iter_mut().zip(kept) {
+            *at = *held;
         }
-        Ok(Model { held })
+        left
     }
 }
