@@ -4,10 +4,10 @@
 mod list;
 mod table;
 
-ghost use Rattle.std.specs.Prelude.{◌≡◌, ◌+◌, ◌-◌, ◌^◌, ◌<◌, length, Ok};
+ghost use Rattle.std.specs.Prelude.{◌≡◌, ◌+◌, ◌-◌, ◌^◌, ◌<◌, ◌≤◌, length, Ok};
 ghost use Rattle.refusal.specs.Tells.{told};
 ghost use Rattle.cards.specs.Calls.{get_answer, get_buffer, put_answer, put_contents, strike_answer, strike_contents};
-ghost use Rattle.skip.specs.BadPlaces.{list_answer};
+ghost use Rattle.skip.specs.BadPlaces.{list_max, list_answer};
 ghost use Rattle.skip.specs.Skipped.{stepped_over, unlisted, skipped, spared, put_below, strike_below, SkipsTheListed};
 ghost use Rattle.skip.specs.Whole.{skipped-whole};
 
@@ -20,6 +20,8 @@ use table::SkipTable;
 pub struct SkipCard<C> {
     card: C,
     bad: SkipTable,
+    // The table's own bound, where proofs of other crates can read it.
+    ghost few: { length bad ≤ list_max },
 }
 
 // The place, or the next one if a bad place is it or lies below it.
