@@ -5,7 +5,7 @@ ghost use Rattle.codes.specs.TwoCodes.{parity};
 ghost use Rattle.codes.specs.Solutions;
 ghost use Rattle.codes.specs.BothSolve.{parity_solves};
 
-use crate::column::blanked;
+use crate::column::{blanked, count_missing};
 use crate::meaning::CheckCode;
 use crate::solve::filled_in;
 use field::TwoByte;
@@ -29,6 +29,9 @@ impl CheckCode for Parity {
 
     fn fill(&self, column: [u16; 20], marks: [bool; 20]) -> [u16; 20] {
         let blank = blanked(&column, &marks, 17);
+        if count_missing(&marks, 17) == 0 {
+            return blank;
+        }
         filled_in(&TwoByte, 1, &blank, &marks, &[xor(&blank[..17]), 0, 0, 0])
     }
 }

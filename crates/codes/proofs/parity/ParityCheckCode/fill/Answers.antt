@@ -7,6 +7,7 @@ use Rattle.field.proofs.Totals.{total_ext}
 use Rattle.codes.specs.TwoCodes.{parity}
 use Rattle.codes.specs.BothSolve.{parity_solves, plain-sum}
 use Rattle.codes.proofs.FilledCodes.{filled_code}
+use Rattle.codes.proofs.Patching.{patch-whole}
 use Rattle.codes.proofs.parity.ParityCheckCode.fill.Goals as goal
 
 first-sum : (x : ℕ) (blank : List ℕ) → x ≡ weighted word_product 2 17 0 (λ i. get_or blank i 0)
@@ -36,3 +37,12 @@ returns c =
     filled_code parity c.args.column c.blanked-blank.result c.filled_in.result c.args.marks
     parity_solves long
     c.blanked-blank.ensures c.filled_in.ensures
+
+pub returns-then-count_missing-eq0 : goal.returns-then-count_missing-eq0
+returns-then-count_missing-eq0 c =
+    let long : length c.blanked-blank.result ≡ 20 = search rules in
+    filled_code parity c.args.column c.blanked-blank.result c.blanked-blank.result c.args.marks
+    parity_solves long
+    c.blanked-blank.ensures
+    (patch-whole 16 word_product 17 1 c.blanked-blank.result c.args.marks (sym c.count_missing.ensures
+    ∙ c.if-count_missing-eq0.true))
