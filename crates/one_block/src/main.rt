@@ -26,8 +26,8 @@ fn main(rt: HostRuntime) -> io::Result<()> {
 
 fn one_block(rt: &HostRuntime, records: &Records) -> io::Result<()> {
     println!(rt; "records {}", records.count)?;
-    match lay(&records.kept) {
-        Ok(mut block) => show(rt, &mut block, &records.kept),
+    match &mut lay(&records.kept) {
+        Ok(block) => show(rt, block, &records.kept),
         Err(why) => println!(rt; "error: {why}"),
     }
 }
