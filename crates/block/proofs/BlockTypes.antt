@@ -1,7 +1,7 @@
 -- Block Types and their numbers. Assumes nothing.
 use Rattle.std.proofs.Common.{◌≡◌, ℕ, zero, suc, ◌%◌, ◌<◌, refl, ap, mod-lt, lit<, arith}
 use Rattle.block.specs.BlockType.{number_of, type_below, type_of, NumbersKept, TypesKept}
-use Rattle.block.specs.declared.block_type.BlockType.TheVariants.{Other0, Data, Other2, Other3, End, Check, Other6, Other7}
+use Rattle.block.specs.declared.block_type.BlockType.TheVariants.{Other0, Data, Other2, Other3, End, Check, Other6, Other7, Wide}
 
 -- only the low three bits count
 pub type_low : (n : ℕ) → type_of (n % 8) ≡ type_of n
@@ -22,11 +22,12 @@ pub number_again : NumbersKept
 number_again n = below_again (n % 8) (mod-lt n (lit< tt))
 
 pub type_again : TypesKept
-type_again Other0 = refl
-type_again Data = refl
-type_again Other2 = refl
-type_again Other3 = refl
-type_again End = refl
-type_again Check = refl
-type_again Other6 = refl
-type_again Other7 = refl
+type_again Other0 h = refl
+type_again Data h = refl
+type_again Other2 h = refl
+type_again Other3 h = refl
+type_again End h = refl
+type_again Check h = refl
+type_again Other6 h = refl
+type_again Other7 h = refl
+type_again (Wide n) h = absurd (omega arith)

@@ -1,5 +1,5 @@
 -- The control fields, as fields of bits, go into bytes and come out again. Assumes nothing.
-use Rattle.std.proofs.Common.{◌≡◌, ℕ, ◌*◌, ◌/◌, ◌^◌, [], ◌∷◌, length, get_or, take, drop, sym, refl, ap, ◌∙◌, mod-lt, lit<, arith, ◌%◌}
+use Rattle.std.proofs.Common.{◌≡◌, ℕ, ◌*◌, ◌/◌, ◌^◌, ◌<◌, [], ◌∷◌, length, get_or, take, drop, sym, refl, ap, ◌∙◌, mod-lt, lit<, arith, ◌%◌}
 use Rattle.bits.specs.Fields.{encode, value, split, join, AllBytes}
 use Rattle.block.specs.BlockType.{number_of, type_of}
 use Rattle.block.proofs.BlockTypes.{number_again, type_again}
@@ -23,8 +23,8 @@ use Rattle.block.specs.declared.control1.Control1.{Control1}
 use Rattle.block.specs.declared.control2.Control2.{Control2}
 use Rattle.bits.proofs.BitLaws.{decode_encode, encode_decode, bytes_all, flag-bit, bit-flag}
 
-control1-fields : (c : Control1) → from_fields1 (fields1 c) ≡ c
-control1-fields c = λ i. record {
+control1-fields : (c : Control1) → number_of c.kind < 8 → from_fields1 (fields1 c) ≡ c
+control1-fields c h = λ i. record {
   reserved = c.reserved;
   format = c.format;
   mark = c.mark;
@@ -33,7 +33,7 @@ control1-fields c = λ i. record {
   sequence = c.sequence;
   file_mark_offset = c.file_mark_offset;
   file_mark_number = c.file_mark_number;
-  kind = type_again c.kind i;
+  kind = type_again c.kind h i;
   early_warning = flag-bit c.early_warning i;
   entities = c.entities;
   back = c.back;
@@ -41,7 +41,8 @@ control1-fields c = λ i. record {
 
 pub control1_decodes : Control1Decodes
 unfolding bytes1 control1_of
-control1_decodes c h = ap from_fields1 (decode_encode widths1 (fields1 c) 20 refl h) ∙ control1-fields c
+control1_decodes c h =
+    ap from_fields1 (decode_encode widths1 (fields1 c) 20 refl h) ∙ control1-fields c h.1.1.1.1.1.1.1.1.0
 
 control2-fields : (c : Control2) → from_fields2 (fields2 c) ≡ c
 control2-fields c = λ i. record {

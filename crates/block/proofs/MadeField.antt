@@ -22,11 +22,11 @@ word_sum : (w : ℕ) → w < 65536 → w ≡ w % 256 + w / 256 % 256 * 256
 word_sum w h = omega arith
 
 -- the type that Control Field 1 keeps
-kind-kept : (c : Control1) → (control1_of (bytes1 c)).kind ≡ c.kind
+kind-kept : (c : Control1) → number_of c.kind < 8 → (control1_of (bytes1 c)).kind ≡ c.kind
 unfolding bytes1 control1_of
-kind-kept c =
+kind-kept c h =
     ap (λ (f : List ℕ). (from_fields1 f).kind) (decode_narrows widths1 (fields1 c) 20 refl refl)
-    ∙ type_low (number_of c.kind) ∙ type_again c.kind
+    ∙ type_low (number_of c.kind) ∙ type_again c.kind h
 
 module _ (field : List ℕ) (c1 : Control1) (c2 : Control2) (l : length field ≡ 8208) where
   edge : List ℕ
@@ -114,9 +114,9 @@ module _ (field : List ℕ) (c1 : Control1) (c2 : Control2) (l : length field �
         ),
       )
 
-  pub field-made : AllBytes field → sound_kind c1.kind true ≡ true → Made (field_block field c1 c2) c1 c2
-  field-made a k =
-      let kept : (control1_at (field_block field c1 c2)).kind ≡ c1.kind = ap (λ (t : List ℕ). (control1_of t).kind) first-bytes ∙ kind-kept c1 in
+  pub field-made : AllBytes field → number_of c1.kind < 8 → sound_kind c1.kind true ≡ true → Made (field_block field c1 c2) c1 c2
+  field-made a h k =
+      let kept : (control1_at (field_block field c1 c2)).kind ≡ c1.kind = ap (λ (t : List ℕ). (control1_of t).kind) first-bytes ∙ kind-kept c1 h in
       record {
         long = ap length block_is ∙ sealed-long body body-length;
         proper = subst AllBytes (sym block_is) (sealed-proper body body-length (body-proper a));
@@ -131,7 +131,7 @@ module _ (field : List ℕ) (c1 : Control1) (c2 : Control2) (l : length field �
 
 pub data_blocks_made : DataBlocksMade
 data_blocks_made field h c2 l a =
-    (field-made field (data_control h) c2 l a refl, field_back field (data_control h) c2 l)
+    (field-made field (data_control h) c2 l a (lit< tt) refl, field_back field (data_control h) c2 l)
 
 zeros-proper : (n : ℕ) → AllBytes (zeros n)
 unfolding zeros
@@ -144,6 +144,6 @@ length-zeros n = length-replicate n 0
 
 pub end_blocks_made : EndBlocksMade
 end_blocks_made h = (
-  field-made (zeros 8208) (end_control h) (end_place h) (length-zeros 8208) (zeros-proper 8208) refl,
+  field-made (zeros 8208) (end_control h) (end_place h) (length-zeros 8208) (zeros-proper 8208) (lit< tt) refl,
   field_back (zeros 8208) (end_control h) (end_place h) (length-zeros 8208),
 )

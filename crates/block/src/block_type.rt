@@ -2,8 +2,8 @@
 ghost use Rattle.std.specs.Prelude.{◌≡◌};
 ghost use Rattle.block.specs.BlockType.{type_of, number_of};
 
-// Its own enum beside the type of a page: a trait for both would be longer than what they share. It has a case for each
-// number, in their order, so that each type has a number of its own and comes back from it.
+// Its own enum beside the type of a page: a trait for both would be longer than what they share. It has a case for
+// each number, in their order, so that each type that three bits hold has a number of its own and comes back from it.
 #[derive(Clone, Copy, PartialEq, Eq, Debug)]
 pub enum BlockType {
     // 0: no block of this format, as all that are called `Other`.
@@ -18,6 +18,8 @@ pub enum BlockType {
     Check,
     Other6,
     Other7,
+    // A number that three bits don't hold, from 8 on; as of any value wider than its field the low bits are written.
+    Wide(u8),
 }
 
 // Where nothing is said the bits are ZERO.
@@ -60,6 +62,7 @@ impl From<BlockType> for u8 {
             BlockType::Check => 5,
             BlockType::Other6 => 6,
             BlockType::Other7 => 7,
+            BlockType::Wide(number) => number.max(8),
         }
     }
 }

@@ -10,9 +10,9 @@ use Rattle.bits.proofs.Groups.{group, degroup, degroup_last}
 use Rattle.bits.proofs.Digits.{bytes_two, bytes_four, encode_one, decode_one}
 use Rattle.bits.proofs.BitLaws.{flag-bit, bit-flag}
 
-entry_fields_lem : (e : Entry) → from_entry_fields (entry_fields e) ≡ e
-entry_fields_lem e = λ i. record {
-  kind = type_again e.kind i;
+entry_fields_lem : (e : Entry) → number_of e.kind < 8 → from_entry_fields (entry_fields e) ≡ e
+entry_fields_lem e h = λ i. record {
+  kind = type_again e.kind h i;
   next = flag-bit e.next i;
   prev = flag-bit e.prev i;
   last = flag-bit e.last i;
@@ -25,7 +25,7 @@ entry_fields_lem e = λ i. record {
 pub entry_decodes : EntryDecodes
 unfolding entry_bytes entry_of
 entry_decodes e h =
-    ap from_entry_fields (decode_encode entry_widths (entry_fields e) 8 refl h) ∙ entry_fields_lem e
+    ap from_entry_fields (decode_encode entry_widths (entry_fields e) 8 refl h) ∙ entry_fields_lem e h.0
 
 fields_back : (x : ℕ) → entry_fields (from_entry_fields (split entry_widths x)) ≡ split entry_widths x
 fields_back x = λ i.

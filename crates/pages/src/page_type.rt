@@ -2,8 +2,8 @@
 ghost use Rattle.std.specs.Prelude.{◌≡◌};
 ghost use Rattle.pages.specs.PageType.{number_of, type_of};
 
-// Its own enum beside the type of a block: a trait for both would be longer than what they share. It has a case for each
-// number, in their order, so that each type has a number of its own and comes back from it.
+// Its own enum beside the type of a block: a trait for both would be longer than what they share. It has a case for
+// each number, in their order, so that each type that three bits hold has a number of its own and comes back from it.
 #[derive(Clone, Copy, PartialEq, Eq, Debug)]
 pub enum PageType {
     // 0: no page of this format, as all that are called `Other`.
@@ -18,6 +18,8 @@ pub enum PageType {
     Other5,
     Other6,
     Other7,
+    // A number that three bits don't hold, from 8 on; as of any value wider than its field the low bits are written.
+    Wide(u8),
 }
 
 // Where nothing is said the bits are ZERO.
@@ -60,6 +62,7 @@ impl From<PageType> for u8 {
             PageType::Other5 => 5,
             PageType::Other6 => 6,
             PageType::Other7 => 7,
+            PageType::Wide(number) => number.max(8),
         }
     }
 }

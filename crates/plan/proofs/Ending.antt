@@ -3,7 +3,7 @@ use Rattle.std.proofs.Common.{◌≡◌, ℕ, suc, ◌+◌, ◌-◌, ◌≤◌, 
 use Rattle.std.proofs.lemmas.List.{length-drop}
 use Rattle.pages.specs.PageType.{is_known}
 use Rattle.pages.specs.declared.page_type.PageType.{PageType}
-use Rattle.pages.specs.declared.page_type.PageType.TheVariants.{Filler, Data, TapeMark, Other0, Other4, Other5, Other6, Other7}
+use Rattle.pages.specs.declared.page_type.PageType.TheVariants.{Filler, Data, TapeMark, Other0, Other4, Other5, Other6, Other7, Wide}
 use Rattle.pages.specs.declared.entry.Entry.{Entry}
 use Rattle.plan.specs.declared.page.PlannedPage.{PlannedPage}
 use Rattle.plan.specs.Objects.{Object, rec}
@@ -68,6 +68,7 @@ step_counts o Other4 m more last c t n got h₁ h₃ = absurd h₁
 step_counts o Other5 m more last c t n got h₁ h₃ = absurd h₁
 step_counts o Other6 m more last c t n got h₁ h₃ = absurd h₁
 step_counts o Other7 m more last c t n got h₁ h₃ = absurd h₁
+step_counts o (Wide k) m more last c t n got h₁ h₃ = absurd h₁
 
 abbrev HasOpen : Option Open → Type 0
 HasOpen None = ⊥

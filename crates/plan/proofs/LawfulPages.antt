@@ -3,7 +3,7 @@ use Rattle.std.proofs.Common.{◌≡◌, ℕ, ◌<◌, ◌≤◌, Bool, true, fa
 use Rattle.bits.specs.Fields.{bit, Within}
 use Rattle.pages.specs.PageType.{number_of, is_known}
 use Rattle.pages.specs.declared.page_type.PageType.{PageType}
-use Rattle.pages.specs.declared.page_type.PageType.TheVariants.{Filler, Data, TapeMark, Other0, Other4, Other5, Other6, Other7}
+use Rattle.pages.specs.declared.page_type.PageType.TheVariants.{Filler, Data, TapeMark, Other0, Other4, Other5, Other6, Other7, Wide}
 use Rattle.pages.specs.Entry.{entry_widths, entry_fields}
 use Rattle.pages.specs.Map.{is_data, lawful_entry}
 use Rattle.pages.specs.declared.entry.Entry.{Entry}
@@ -63,6 +63,7 @@ known_small Other4 k = absurd k
 known_small Other5 k = absurd k
 known_small Other6 k = absurd k
 known_small Other7 k = absurd k
+known_small (Wide n) k = absurd k
 
 pub entry_within : (head last : Bool) (pg : PlannedPage) → T (lawful_entry head (entry_for pg last)) → pg.count < 65536
     → Within entry_widths (entry_fields (entry_for pg last))
